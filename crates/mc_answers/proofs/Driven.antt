@@ -3,21 +3,13 @@ use Rattle.std.proofs.Common.{◌≡◌, ◌<◌, Bool, true, false, ℕ, List, 
 use Rattle.std.specs.Prelude.{slice_index_or}
 use Rattle.mc_model.specs.Notes.{History}
 use Rattle.mc_code.specs.Code.{Code}
-use Rattle.mc_core.specs.Held.{Held, IsHeldBy}
 use Rattle.mc_core.specs.Histories.{history_of, record_of}
-use Rattle.mc_core.specs.Safety.{IsSafe}
-use Rattle.mc_core.specs.Steps.{IsFold}
-use Rattle.mc_core.specs.Worlds.{Noted, World, new_world}
-use Rattle.mc_explain.specs.Verdicts.{IsStated, IsTrueOf}
-use Rattle.mc_explain.specs.declared.verdict.Verdict.{Verdict}
+use Rattle.mc_core.specs.{Held.Held, Held.IsHeldBy, Safety.IsSafe, Steps.IsFold, Worlds.Noted, Worlds.World, Worlds.new_world}
+use Rattle.mc_explain.specs.{Verdicts.IsStated, Verdicts.IsTrueOf, declared.verdict.Verdict.Verdict}
 use Rattle.mc_explain.specs.declared.verdict.Verdict.TheVariants as verdict
-use Rattle.mc_why.specs.Causes.{IsFoundOf, place_of}
-use Rattle.mc_why.specs.Cuts.{place_count}
-use Rattle.mc_why.specs.declared.cause.Finding.{Finding}
+use Rattle.mc_why.specs.{Causes.IsFoundOf, Causes.place_of, Cuts.place_count, declared.cause.Finding.Finding}
 use Rattle.mc_why.specs.declared.cause.Finding.TheVariants as finding
-use Rattle.mc_answers.specs.DriveAnswers.{IsDriven}
-use Rattle.mc_answers.specs.StepLines.{AreMadeBy, IsStepLine}
-use Rattle.mc_answers.specs.WhyAnswers.{IsWhy, IsWhyBy, step_line}
+use Rattle.mc_answers.specs.{DriveAnswers.IsDriven, StepLines.AreMadeBy, StepLines.IsStepLine, WhyAnswers.IsWhy, WhyAnswers.IsWhyBy, WhyAnswers.step_line}
 
 -- what is found has a place of the history
 place_within : (h : History) (found : Finding) → IsFoundOf h found → place_of found < place_count h

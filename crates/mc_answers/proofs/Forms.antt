@@ -1,11 +1,8 @@
 -- What has the status of a right answer is right in JSON.
 use Rattle.std.proofs.Common.{◌≡◌, ℕ, List, Ok, Err, Result}
-use Rattle.mc_answers.specs.InJson.{HasStatusOf, InJson}
-use Rattle.mc_answers.specs.Refusing.{Gives}
-use Rattle.mc_answers.specs.declared.answer.Answer.{Answer}
 use Rattle.mc_answers.specs.declared.refusal.Unanswered.{Unanswered}
+use Rattle.mc_answers.specs.{InJson.HasStatusOf, InJson.InJson, Refusing.Gives, declared.answer.Answer.Answer, declared.status.Status.Status}
 use Rattle.mc_answers.specs.declared.refusal.Unanswered.TheVariants as unanswered
-use Rattle.mc_answers.specs.declared.status.Status.{Status}
 use Rattle.mc_answers.proofs.Refused.{Gives-weaker}
 
 in-json : (P : List ℕ → Status → Type 0) (found : Result Answer Unanswered) → Gives P found

@@ -1,7 +1,7 @@
 -- The front of a text lies in the text.
 use Rattle.std.proofs.Common.{arith, ap, sym, append_assoc, length-append, ◌≡◌, ◌∙◌, ℕ, ◌≤◌, List, [], ◌∷◌, ◌++◌, length}
-use Rattle.std.specs.List.{concat}
 use Rattle.std.proofs.lemmas.List.Folds.{concat-append}
+use Rattle.std.specs.List.{concat}
 use Rattle.bstr.proofs.lemmas.RestLemmas.{concat-lines_of}
 use Rattle.mc_code.specs.Code.{Code}
 use Rattle.mc_script_text.specs.FrontText.{SpellsFront}

@@ -1,10 +1,7 @@
 -- How long an input is whose first bytes were read.
 use Rattle.std.proofs.Common.{arith, ap, refl, sym, subst, append-nil, ◌≡◌, ◌∙◌, ℕ, ◌<◌, ◌≤◌, List, ◌++◌, length, length-append, take}
-use Rattle.std.proofs.Common.{Option, Some, None}
-use Rattle.std.proofs.lemmas.List.{take-append-le}
-use Rattle.mc_answers.specs.Answers.{IsWhole}
-use Rattle.mc_answers.specs.Input.{Adds}
-use Rattle.mc_answers.specs.Streams.{IsAtEnd, Loses, TakesAtMost}
+use Rattle.std.proofs.{Common.Option, Common.Some, Common.None, lemmas.List.take-append-le}
+use Rattle.mc_answers.specs.{Answers.IsWhole, Input.Adds, Streams.IsAtEnd, Streams.Loses, Streams.TakesAtMost}
 use Rattle.mc_answers.proofs.Taken.{loses_more}
 
 -- ---- what was taken

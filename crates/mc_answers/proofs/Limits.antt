@@ -3,9 +3,7 @@ use Rattle.std.proofs.Common.{arith, refl, ◌≡◌, ◌≤◌, ℕ, List, [], 
 use Rattle.mc_cli.specs.declared.question.Question.{Question}
 use Rattle.mc_cli.specs.declared.question.Question.TheVariants as question
 use Rattle.mc_cli.specs.declared.request.Request.TheVariants as request
-use Rattle.mc_answers.specs.Answers.{IsAnswerTo, most_read}
-use Rattle.mc_answers.specs.Command.{reads_history}
-use Rattle.mc_answers.specs.Streams.{TakesAtMost}
+use Rattle.mc_answers.specs.{Answers.IsAnswerTo, Answers.most_read, Command.reads_history, Streams.TakesAtMost}
 use Rattle.mc_answers.proofs.Right.{MayLackMemory}
 
 pub lacking_memory : (asked : Question) → MayLackMemory (IsAnswerTo asked)

@@ -2,9 +2,8 @@
 use Rattle.std.proofs.Common.{◌≡◌, ◌⊎◌, ℕ, List, String, inl, inr, refl}
 use Rattle.std.specs.Global.{Global}
 use Rattle.mc_cli.specs.Asking.{AsksFor, IsFaultOf, MayShow, MayTell}
-use Rattle.mc_cli.specs.declared.request.LineFault.{LineFault}
+use Rattle.mc_cli.specs.{declared.request.LineFault.LineFault, declared.request.Request.Request}
 use Rattle.mc_cli.specs.declared.request.LineFault.TheVariants as fault
-use Rattle.mc_cli.specs.declared.request.Request.{Request}
 
 -- a line that asks for something fails only where memory runs out
 pub asking_lacks_memory : (words : List (List ℕ)) (wanted : Request) (found : LineFault) → AsksFor words wanted → IsFaultOf words found

@@ -1,14 +1,9 @@
 -- The greatest costs of the sections, taken one by one.
-use Rattle.mc_protocol.specs.declared.actor.Actor.{Actor}
+use Rattle.mc_protocol.specs.{declared.actor.Actor.Actor, Sections.section_of, declared.sections.Sections.Sections}
 use Rattle.mc_protocol.specs.declared.actor.Actor.TheVariants as actor
-use Rattle.mc_protocol.specs.Sections.{section_of}
-use Rattle.mc_protocol.specs.declared.sections.Sections.{Sections}
 use Rattle.mc_code.specs.Code.{Code}
-use Rattle.mc_verify.specs.Checked.{IsChecked}
-use Rattle.mc_flow.specs.Costs.{IsGreatestCost}
-use Rattle.mc_verify.specs.Faults.{IsSound}
-use Rattle.mc_flow.specs.declared.cost.Cost.{Cost}
-use Rattle.mc_flow.specs.declared.measure.Measure.TheVariants as measure
+use Rattle.mc_sound.specs.{Checked.IsChecked, Faults.IsSound, Costs.IsGreatestCost, declared.cost.Cost.Cost}
+use Rattle.mc_sound.specs.declared.measure.Measure.TheVariants as measure
 
 -- what holds of each of the three sections holds of all
 in_each : (H : Actor → Type 0) → H actor.P → H actor.A → H actor.B → (section : Actor) → H section

@@ -1,10 +1,8 @@
 -- Refusals that are right for more than one reason.
 use Rattle.std.proofs.Common.{ℕ, List, Ok, Err, Result}
-use Rattle.mc_answers.specs.Refusing.{Gives, IfRefused}
-use Rattle.mc_answers.specs.declared.answer.Answer.{Answer}
 use Rattle.mc_answers.specs.declared.refusal.Unanswered.{Unanswered}
+use Rattle.mc_answers.specs.{Refusing.Gives, Refusing.IfRefused, declared.answer.Answer.Answer, declared.status.Status.Status}
 use Rattle.mc_answers.specs.declared.refusal.Unanswered.TheVariants as unanswered
-use Rattle.mc_answers.specs.declared.status.Status.{Status}
 
 pub IfRefused-weaker : (fault : Unanswered) (P Q : List ℕ → Type 0) → ((text : List ℕ) → P text → Q text) → IfRefused fault P
     → IfRefused fault Q

@@ -2,13 +2,9 @@
 use Rattle.std.proofs.Common.{Bool, true, false, arith, refl, ap, sym, inl, inr, ◌≡◌, ◌∙◌, ℕ, ◌<◌}
 use Rattle.std.proofs.lemmas.Bool.{false≢true}
 use Rattle.std.proofs.Common.{List, [], ◌++◌, length, Option, Some, None, length-append}
-use Rattle.mc_answers.specs.Answers.{AnswersBy, AnswersWhole, IsWhole}
-use Rattle.mc_answers.specs.Input.{FailsBy}
-use Rattle.mc_answers.specs.declared.input.InputFault.{InputFault}
+use Rattle.mc_answers.specs.{Answers.AnswersBy, Answers.AnswersWhole, Answers.IsWhole, Input.FailsBy, declared.input.InputFault.InputFault, Streams.Grows}
+use Rattle.mc_answers.specs.{Streams.Loses, Streams.TakesAtMost, Writing.WritesRightly, Writing.out_of_memory_text, declared.status.Status.Status}
 use Rattle.mc_answers.specs.declared.input.InputFault.TheVariants as fault
-use Rattle.mc_answers.specs.Streams.{Grows, Loses, TakesAtMost}
-use Rattle.mc_answers.specs.Writing.{WritesRightly, out_of_memory_text}
-use Rattle.mc_answers.specs.declared.status.Status.{Status}
 use Rattle.mc_answers.specs.declared.status.Status.TheVariants as status
 
 -- what is done for a text

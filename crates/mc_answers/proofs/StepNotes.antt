@@ -1,18 +1,13 @@
 -- How many notes the history of a world has, how many a step adds to it, and which step made each.
 use Rattle.std.proofs.Common.{◌≡◌, ◌⊎◌, ℕ, ◌+◌, ◌<◌, ◌≤◌, Result, Ok, Err, List, [], ◌∷◌, ◌++◌, length, take, refl, sym, ap, ap₂, ◌∙◌, arith}
-use Rattle.std.proofs.Common.{inl, inr, length-append}
+use Rattle.std.proofs.{Common.inl, Common.inr, Common.length-append, lemmas.Bool.cases_lt, lemmas.List.get_or_append_left, lemmas.List.get_or_push}
 use Rattle.std.specs.Prelude.{OnOk, OnErr, IfErr, slice_index_or}
-use Rattle.std.proofs.lemmas.Bool.{cases_lt}
-use Rattle.std.proofs.lemmas.List.{get_or_append_left, get_or_push}
 use Rattle.mc_protocol.specs.declared.actor.Actor.{Actor}
 use Rattle.mc_code.specs.Code.{Code}
 use Rattle.mc_history.specs.declared.event.Event.{Event}
 use Rattle.mc_history.specs.declared.event.Event.TheVariants as event
-use Rattle.mc_core.specs.declared.step_refusal.StepRefusal.{StepRefusal}
-use Rattle.mc_core.specs.Held.{Held}
-use Rattle.mc_core.specs.Histories.{recorded_after, recorded_from, record_of}
-use Rattle.mc_core.specs.Steps.{IsFold, IsRefused, IsStep}
-use Rattle.mc_core.specs.Worlds.{Noted, World, new_world}
+use Rattle.mc_core.specs.{declared.step_refusal.StepRefusal.StepRefusal, Held.Held, Histories.recorded_after, Histories.recorded_from, Histories.record_of}
+use Rattle.mc_core.specs.{Steps.IsFold, Steps.IsRefused, Steps.IsStep, Worlds.Noted, Worlds.World, Worlds.new_world}
 use Rattle.mc_core.proofs.LongerFolds.{skipped_over, taken}
 use Rattle.mc_answers.specs.StepLines.{AreMadeBy, LeavesNotes, MakesNote}
 

@@ -2,17 +2,9 @@
 use Rattle.std.specs.Prelude.{◌≡◌, ◌⊎◌, ℕ, ◌<◌, ◌≤◌, Bool, true, false, Option, Some, None, List, length, codes, take}
 use Rattle.mc_cli.specs.declared.question.Question.{Question}
 use Rattle.mc_cli.specs.declared.question.Question.TheVariants as question
-use Rattle.mc_answers.specs.AsmAnswers.{Assembles}
-use Rattle.mc_answers.specs.CheckAnswers.{ChecksAs}
-use Rattle.mc_answers.specs.ConvertAnswers.{Converts}
-use Rattle.mc_answers.specs.DrawAnswers.{Draws}
-use Rattle.mc_answers.specs.DriveAnswers.{Drives}
-use Rattle.mc_answers.specs.JoinAnswers.{Joins}
-use Rattle.mc_answers.specs.Judging.{JudgesAs}
-use Rattle.mc_answers.specs.Streams.{Grows, TakesAtMost}
-use Rattle.mc_answers.specs.TimelineAnswers.{BeginsTimeline}
-use Rattle.mc_answers.specs.Writing.{out_of_memory_text}
-use Rattle.mc_answers.specs.declared.status.Status.{Status}
+use Rattle.mc_answers.specs.{AsmAnswers.Assembles, CheckAnswers.ChecksAs, ConvertAnswers.Converts, DrawAnswers.Draws, DriveAnswers.Drives}
+use Rattle.mc_answers.specs.{JoinAnswers.Joins, Judging.JudgesAs, Streams.Grows, Streams.TakesAtMost, TimelineAnswers.BeginsTimeline}
+use Rattle.mc_answers.specs.{Writing.out_of_memory_text, declared.status.Status.Status}
 use Rattle.mc_answers.specs.declared.status.Status.TheVariants as status
 
 -- the most bytes of an input, and of one that begins as a timeline

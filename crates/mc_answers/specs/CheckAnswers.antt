@@ -1,16 +1,11 @@
 -- What `check` answers to an input.
 use Rattle.std.specs.Prelude.{◌≡◌, ◌⊎◌, ℕ, Bool, true, false, List, ◌++◌, Ok, Err, codes, decimal}
 use Rattle.mc_cli.specs.declared.args.CheckArgs.{CheckArgs}
-use Rattle.mc_protocol.specs.Words.{actor_word}
-use Rattle.mc_protocol.specs.declared.actor.Actor.{Actor}
+use Rattle.mc_protocol.specs.{Words.actor_word, declared.actor.Actor.Actor, declared.sections.Sections.Sections}
 use Rattle.mc_protocol.specs.declared.actor.Actor.TheVariants as actor
-use Rattle.mc_protocol.specs.declared.sections.Sections.{Sections}
 use Rattle.mc_code.specs.Code.{Code}
-use Rattle.mc_flow.specs.declared.cost.Cost.{Cost}
-use Rattle.mc_verify.specs.Checked.{IsChecked}
-use Rattle.mc_answers.specs.InJson.{InJson}
-use Rattle.mc_answers.specs.Loading.{Loads, SaysNoCode, SaysUnsound}
-use Rattle.mc_answers.specs.declared.status.Status.{Status}
+use Rattle.mc_sound.specs.{declared.cost.Cost.Cost, Checked.IsChecked}
+use Rattle.mc_answers.specs.{InJson.InJson, Loading.Loads, Loading.SaysNoCode, Loading.SaysUnsound, declared.status.Status.Status}
 use Rattle.mc_answers.specs.declared.status.Status.TheVariants as status
 
 -- what is written for the greatest costs of a section: the section, and how many requests and how many bytes it may send

@@ -2,8 +2,7 @@
 use Rattle.std.specs.Prelude.{◌≡◌, ◌⊎◌, ℕ, List, codes, false}
 use Rattle.mc_hints.specs.Refusals.{history_refusal}
 use Rattle.mc_model.specs.declared.rules.HistoryKind.{HistoryKind}
-use Rattle.mc_answers.specs.Refusing.{IsRefusal}
-use Rattle.mc_answers.specs.declared.status.Status.{Status}
+use Rattle.mc_answers.specs.{Refusing.IsRefusal, declared.status.Status.Status}
 use Rattle.mc_answers.specs.declared.status.Status.TheVariants as status
 
 -- a notation may have any bytes; what isn't converted is refused as no history, or as one that keeps no order

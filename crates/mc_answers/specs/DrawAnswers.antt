@@ -2,9 +2,7 @@
 use Rattle.std.specs.Prelude.{◌≡◌, ◌⊎◌, ℕ, List, false}
 use Rattle.mc_hints.specs.Refusals.{history_refusal}
 use Rattle.mc_model.specs.declared.rules.HistoryKind.{HistoryKind}
-use Rattle.mc_answers.specs.Refusing.{IsRefusal}
-use Rattle.mc_answers.specs.TimelineAnswers.{RefusesKey}
-use Rattle.mc_answers.specs.declared.status.Status.{Status}
+use Rattle.mc_answers.specs.{Refusing.IsRefusal, TimelineAnswers.RefusesKey, declared.status.Status.Status}
 use Rattle.mc_answers.specs.declared.status.Status.TheVariants as status
 
 -- a picture may have any bytes; what isn't drawn is refused as no history, or for a key that is sought

@@ -1,26 +1,17 @@
 -- What `drive` answers to a text: a script, and after it a step list.
 use Rattle.std.specs.Prelude.{◌≡◌, ◌≢◌, ◌⊎◌, ℕ, ◌+◌, ◌≤◌, Bool, List, ◌++◌, codes, decimal, drop, min, take}
-use Rattle.mc_protocol.specs.Lines.{LAST_NUMBER, line_count, lines_of_text}
-use Rattle.mc_protocol.specs.declared.lines.Separator.TheVariants.{Space}
+use Rattle.mc_protocol.specs.{Lines.LAST_NUMBER, Lines.line_count, Lines.lines_of_text, declared.lines.Separator.TheVariants.Space}
 use Rattle.mc_code.specs.Code.{Code}
-use Rattle.mc_verify.specs.Faults.{IsSound}
-use Rattle.mc_core.specs.Held.{Held, IsHeldBy}
-use Rattle.mc_core.specs.Histories.{history_of}
-use Rattle.mc_history.specs.StepText.{SpellsSteps}
-use Rattle.mc_core.specs.Worlds.{Noted}
-use Rattle.mc_history.specs.declared.steps_fault.StepsKind.{StepsKind}
+use Rattle.mc_sound.specs.Faults.{IsSound}
+use Rattle.mc_core.specs.{Held.Held, Held.IsHeldBy, Histories.history_of, Worlds.Noted}
+use Rattle.mc_history.specs.{StepText.SpellsSteps, declared.steps_fault.StepsKind.StepsKind}
 use Rattle.mc_history.specs.declared.steps_fault.StepsKind.TheVariants as steps_kind
-use Rattle.mc_explain.specs.Verdicts.{IsStated}
-use Rattle.mc_explain.specs.declared.verdict.Verdict.{Verdict}
+use Rattle.mc_explain.specs.{Verdicts.IsStated, declared.verdict.Verdict.Verdict}
 use Rattle.mc_run.specs.Headline.{IsTrial}
-use Rattle.mc_answers.specs.Endings.{endings_text, run_status}
-use Rattle.mc_hints.specs.Refusals.{steps_refusal}
 use Rattle.mc_answers.specs.Loading.{IsFrontCode, IsFrontFault, SaysNoCode, SaysUnsound}
-use Rattle.mc_answers.specs.Refusing.{IsRefusal}
-use Rattle.mc_answers.specs.StepLines.{IsStepLine}
-use Rattle.mc_answers.specs.Verdicts.{verdict_text}
-use Rattle.mc_answers.specs.WhyAnswers.{IsWhyBy}
-use Rattle.mc_answers.specs.declared.status.Status.{Status}
+use Rattle.mc_answers.specs.{Endings.endings_text, Endings.run_status, Refusing.IsRefusal, StepLines.IsStepLine, Verdicts.verdict_text}
+use Rattle.mc_answers.specs.{WhyAnswers.IsWhyBy, declared.status.Status.Status}
+use Rattle.mc_hints.specs.Refusals.{steps_refusal}
 use Rattle.mc_answers.specs.declared.status.Status.TheVariants as status
 
 -- the text begins with a script of this many bytes, whose code is sound

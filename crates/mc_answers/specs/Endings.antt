@@ -1,18 +1,13 @@
 -- How the sections of a run ended: what is written of it, and the exit status after it.
 use Rattle.std.specs.Prelude.{ℕ, List, ◌++◌, codes, decimal}
-use Rattle.mc_protocol.specs.Faults.{fault_name, fault_number}
-use Rattle.mc_protocol.specs.Words.{actor_word}
-use Rattle.mc_protocol.specs.declared.actor.Actor.{Actor}
+use Rattle.mc_protocol.specs.{Faults.fault_name, Faults.fault_number, Words.actor_word, declared.actor.Actor.Actor}
+use Rattle.mc_protocol.specs.{declared.fault.Fault.Fault, declared.sections.Sections.Sections}
 use Rattle.mc_protocol.specs.declared.actor.Actor.TheVariants as actor
-use Rattle.mc_protocol.specs.declared.fault.Fault.{Fault}
 use Rattle.mc_protocol.specs.declared.fault.Fault.TheVariants as fault
-use Rattle.mc_protocol.specs.declared.sections.Sections.{Sections}
 use Rattle.mc_core.specs.declared.ending.Ending.{Ending}
 use Rattle.mc_core.specs.declared.ending.Ending.TheVariants as ending
 use Rattle.mc_explain.specs.declared.verdict.Verdict.{Verdict}
-use Rattle.mc_answers.specs.Statuses.{joined}
-use Rattle.mc_answers.specs.Verdicts.{verdict_status}
-use Rattle.mc_answers.specs.declared.status.Status.{Status}
+use Rattle.mc_answers.specs.{Statuses.joined, Verdicts.verdict_status, declared.status.Status.Status}
 use Rattle.mc_answers.specs.declared.status.Status.TheVariants as status
 
 -- how a section stands; of a fault its number and its name

@@ -1,9 +1,7 @@
 -- What is answered in JSON.
 use Rattle.std.specs.Prelude.{◌≡◌, ℕ, Bool, true, false, List, Ok, Err, Result}
-use Rattle.mc_answers.specs.declared.answer.Answer.{Answer}
-use Rattle.mc_answers.specs.declared.refusal.Unanswered.{Unanswered}
+use Rattle.mc_answers.specs.{declared.answer.Answer.Answer, declared.refusal.Unanswered.Unanswered, declared.status.Status.Status}
 use Rattle.mc_answers.specs.declared.refusal.Unanswered.TheVariants as unanswered
-use Rattle.mc_answers.specs.declared.status.Status.{Status}
 use Rattle.mc_answers.specs.declared.status.Status.TheVariants as status
 
 -- JSON may have any bytes; the status with it is that of some text which is right

@@ -1,10 +1,8 @@
 -- What reading the input does. No public contract cites these.
 use Rattle.std.specs.Prelude.{◌≡◌, ◌⊎◌, ℕ, ◌<◌, ◌≤◌, Bool, true, Option, Result, MatchResult, List, [], ◌++◌, length, take}
-use Rattle.mc_answers.specs.Answers.{INPUT_LIMIT, TIMELINE_LIMIT}
 use Rattle.mc_answers.specs.declared.input.InputFault.{InputFault}
+use Rattle.mc_answers.specs.{Answers.INPUT_LIMIT, Answers.TIMELINE_LIMIT, Streams.Loses, TimelineAnswers.BeginsTimeline}
 use Rattle.mc_answers.specs.declared.input.InputFault.TheVariants as fault
-use Rattle.mc_answers.specs.Streams.{Loses}
-use Rattle.mc_answers.specs.TimelineAnswers.{BeginsTimeline}
 
 -- the input has failed where the fault is its
 abbrev pub FailsBy : Bool → Bool → InputFault → Type 0

@@ -1,7 +1,6 @@
 -- What `join` answers to reports.
 use Rattle.std.specs.Prelude.{◌≡◌, ◌⊎◌, ℕ, List}
-use Rattle.mc_join.specs.Refusals.{refusal_text}
-use Rattle.mc_join.specs.declared.fault.ReportKind.{ReportKind}
+use Rattle.mc_join.specs.{Refusals.refusal_text, declared.fault.ReportKind.ReportKind}
 use Rattle.mc_answers.specs.declared.status.Status.{Status}
 use Rattle.mc_answers.specs.declared.status.Status.TheVariants as status
 

@@ -1,19 +1,14 @@
 -- What `judge` answers to the text of a history whose clients are P, A and B.
 use Rattle.std.specs.Prelude.{◌≡◌, ◌≢◌, ◌⊎◌, ℕ, Bool, Option, Some, None, List, ◌++◌, codes}
-use Rattle.mc_model.specs.Notes.{History}
-use Rattle.mc_model.specs.declared.rules.HistoryKind.{HistoryKind}
+use Rattle.mc_model.specs.{Notes.History, declared.rules.HistoryKind.HistoryKind}
 use Rattle.mc_model.specs.declared.rules.HistoryKind.TheVariants as kind
-use Rattle.mc_history.specs.Claim.{Claim}
-use Rattle.mc_history.specs.HistoryText.{SpellsHistory}
+use Rattle.mc_history.specs.{Claim.Claim, HistoryText.SpellsHistory}
 use Rattle.mc_claims.specs.Explains.{Explains}
-use Rattle.mc_explain.specs.Verdicts.{IsStated, IsTrueOf, IsWithin}
-use Rattle.mc_explain.specs.declared.verdict.Verdict.{Verdict}
+use Rattle.mc_explain.specs.{Verdicts.IsStated, Verdicts.IsTrueOf, Verdicts.IsWithin, declared.verdict.Verdict.Verdict}
 use Rattle.mc_hints.specs.Refusals.{history_refusal}
-use Rattle.mc_answers.specs.Refusing.{IsRefusal}
 use Rattle.mc_answers.specs.Verdicts.{verdict_status, verdict_text}
-use Rattle.mc_answers.specs.WhyAnswers.{IsWhy, line_in_text}
+use Rattle.mc_answers.specs.{Refusing.IsRefusal, WhyAnswers.IsWhy, WhyAnswers.line_in_text, declared.status.Status.Status}
 use Rattle.mc_cli.specs.declared.args.Search.{Search}
-use Rattle.mc_answers.specs.declared.status.Status.{Status}
 use Rattle.mc_answers.specs.declared.status.Status.TheVariants as status
 
 -- whether the explanation explains the history is written

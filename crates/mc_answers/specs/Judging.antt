@@ -1,14 +1,12 @@
 -- What `judge` answers to a text, as the line asks for it.
 use Rattle.std.specs.Prelude.{◌≡◌, ◌⊎◌, ℕ, Bool, true, false, Option, Some, None, List, ◌++◌, replicate}
 use Rattle.mc_model.specs.Notes.{History}
-use Rattle.mc_history.specs.Claim.{Claim}
-use Rattle.mc_history.specs.HistoryText.{SpellsHistory}
+use Rattle.mc_history.specs.{Claim.Claim, HistoryText.SpellsHistory}
 use Rattle.mc_convert.specs.Excerpts.{StandsIn}
 use Rattle.mc_cli.specs.declared.args.{JudgeArgs.JudgeArgs, Search.Search}
-use Rattle.mc_answers.specs.InJson.{AnswersIn}
 use Rattle.mc_answers.specs.JudgeAnswers.{Judges, SaysNoHistory, SpellsNone}
 use Rattle.mc_answers.specs.TimelineAnswers.{BeginsTimeline, JudgesTimelineFor, RefusesKey}
-use Rattle.mc_answers.specs.declared.status.Status.{Status}
+use Rattle.mc_answers.specs.{InJson.AnswersIn, declared.status.Status.Status}
 use Rattle.mc_answers.specs.declared.status.Status.TheVariants as status
 
 -- a history has no keys that are judged alone: the key is refused, or else the text

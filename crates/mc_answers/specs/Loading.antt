@@ -3,21 +3,16 @@ use Rattle.std.specs.Prelude.{◌≡◌, ◌≢◌, ◌⊎◌, ◌==◌, ℕ, Bo
 use Rattle.std.specs.List.{starts_with}
 use Rattle.mc_script_text.specs.declared.fault.ScriptKind.TheVariants as script_kind
 use Rattle.mc_script.specs.Script.{Script}
-use Rattle.mc_script_text.specs.FrontText.{SpellsFront}
-use Rattle.mc_script_text.specs.ScriptText.{SpellsScript}
-use Rattle.mc_code.specs.declared.fault.AsmFault.{AsmFault}
+use Rattle.mc_script_text.specs.{FrontText.SpellsFront, ScriptText.SpellsScript}
+use Rattle.mc_code.specs.Layout.{IsExceeded, IsFirst, code_of}
+use Rattle.mc_code.specs.{declared.fault.AsmFault.AsmFault, Agreement.Agrees, Code.Code, Code.IsCode}
 use Rattle.mc_code.specs.declared.fault.AsmFault.TheVariants as asm_fault
 use Rattle.mc_image.specs.declared.fault.ImageKind.TheVariants as image_kind
-use Rattle.mc_code.specs.Agreement.{Agrees}
-use Rattle.mc_code.specs.Code.{Code, IsCode}
 use Rattle.mc_image.specs.Image.{IsImageOf}
-use Rattle.mc_code.specs.Layout.{IsExceeded, IsFirst, code_of}
-use Rattle.mc_hints.specs.Refusals.{load_refusal, unsound_text}
-use Rattle.mc_hints.specs.declared.refused.LoadFault.{LoadFault}
+use Rattle.mc_hints.specs.{Refusals.load_refusal, Refusals.unsound_text, declared.refused.LoadFault.LoadFault}
 use Rattle.mc_hints.specs.declared.refused.LoadFault.TheVariants as load_fault
-use Rattle.mc_verify.specs.Checked.{IsRightRefusal}
-use Rattle.mc_verify.specs.Faults.{IsSound}
-use Rattle.mc_verify.specs.Refusals.{Refusal}
+use Rattle.mc_verify.specs.Refusals.{IsRightRefusal, Refusal}
+use Rattle.mc_sound.specs.Faults.{IsSound}
 use Rattle.mc_answers.specs.Refusing.{IsRefusal}
 
 -- ---- scripts

@@ -1,10 +1,8 @@
 -- Why an input has no other answer than its refusal.
 use Rattle.std.specs.Prelude.{◌≡◌, ℕ, Bool, List, ◌++◌, Ok, Err, Result}
 use Rattle.mc_hints.specs.Refusals.{IsHint}
-use Rattle.mc_answers.specs.declared.answer.Answer.{Answer}
-use Rattle.mc_answers.specs.declared.refusal.Unanswered.{Unanswered}
+use Rattle.mc_answers.specs.{declared.answer.Answer.Answer, declared.refusal.Unanswered.Unanswered, declared.status.Status.Status}
 use Rattle.mc_answers.specs.declared.refusal.Unanswered.TheVariants as unanswered
-use Rattle.mc_answers.specs.declared.status.Status.{Status}
 use Rattle.mc_answers.specs.declared.status.Status.TheVariants as status
 
 -- the text is this refusal with what more is said of it, if `why` asks for that

@@ -1,9 +1,7 @@
 -- The line of the step that makes a note of the history of a step list.
 use Rattle.std.specs.Prelude.{◌≡◌, ℕ, ◌+◌, ◌<◌, List, length, slice_index_or, take}
 use Rattle.mc_code.specs.Code.{Code}
-use Rattle.mc_core.specs.Histories.{record_of}
-use Rattle.mc_core.specs.Steps.{IsFold}
-use Rattle.mc_core.specs.Worlds.{Noted, World, new_world}
+use Rattle.mc_core.specs.{Histories.record_of, Steps.IsFold, Worlds.Noted, Worlds.World, Worlds.new_world}
 use Rattle.mc_answers.specs.WhyAnswers.{step_line}
 
 -- the first `count` of the steps lead to a world whose history has `notes` notes

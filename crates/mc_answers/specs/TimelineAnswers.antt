@@ -1,25 +1,18 @@
 -- What `judge` answers to the text of a timeline.
 use Rattle.std.specs.Prelude.{◌≡◌, ◌⊎◌, ◌≤◌, ℕ, Bool, true, false, not, ◌||◌, Option, Some, None, is_some, List, [], ◌∷◌, ◌++◌}
-use Rattle.std.specs.Prelude.{bytes_eq, codes, map}
-use Rattle.std.specs.List.{list_any}
-use Rattle.mc_protocol.specs.Lines.{Words, words_of_text}
-use Rattle.mc_protocol.specs.declared.lines.Separator.TheVariants.{Space}
+use Rattle.std.specs.{Prelude.bytes_eq, Prelude.codes, Prelude.map, List.list_any}
+use Rattle.mc_protocol.specs.{Lines.Words, Lines.words_of_text, declared.lines.Separator.TheVariants.Space}
 use Rattle.mc_model.specs.declared.note.Note.TheVariants as note
-use Rattle.mc_timeline.specs.TimelineText.{timeline_header}
-use Rattle.mc_timeline.specs.Timelines.{ClientNote, restricted}
-use Rattle.mc_linearize.specs.Claims.{ExplainsTimeline, TimelineClaim}
-use Rattle.mc_linearize.specs.Verdicts.{IsTrueOf, IsTrueOfAll, IsUndecided}
+use Rattle.mc_timeline.specs.{TimelineText.timeline_header, Timelines.ClientNote, Timelines.restricted}
 use Rattle.mc_linearize.specs.declared.verdict.{KeyVerdict.KeyVerdict, TimelineVerdict.TimelineVerdict}
+use Rattle.mc_linearize.specs.{Claims.ExplainsTimeline, Claims.TimelineClaim, Verdicts.IsTrueOf, Verdicts.IsTrueOfAll, Verdicts.IsUndecided}
 use Rattle.mc_linearize.specs.declared.verdict.KeyVerdict.TheVariants as of_key
 use Rattle.mc_linearize.specs.declared.verdict.TimelineVerdict.TheVariants as of_all
 use Rattle.mc_timeline_text.specs.TimelineTexts.{SpellsTimelineText, claim_text}
-use Rattle.mc_timeline_why.specs.TimelineCauses.{IsFoundOn, overlap_of, place_of}
-use Rattle.mc_timeline_why.specs.TimelineWhyText.{why_text}
 use Rattle.mc_timeline_why.specs.declared.cause.TimelineFinding.{TimelineFinding}
+use Rattle.mc_timeline_why.specs.{TimelineCauses.IsFoundOn, TimelineCauses.overlap_of, TimelineCauses.place_of, TimelineWhyText.why_text}
 use Rattle.mc_cli.specs.declared.args.JudgeArgs.{JudgeArgs}
-use Rattle.mc_answers.specs.JudgeAnswers.{SaysNoHistory}
-use Rattle.mc_answers.specs.WhyAnswers.{line_after_header}
-use Rattle.mc_answers.specs.declared.status.Status.{Status}
+use Rattle.mc_answers.specs.{JudgeAnswers.SaysNoHistory, WhyAnswers.line_after_header, declared.status.Status.Status}
 use Rattle.mc_answers.specs.declared.status.Status.TheVariants as status
 
 -- the first line of the text that counts is `history 3`

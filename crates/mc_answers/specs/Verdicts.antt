@@ -1,7 +1,6 @@
 -- What is written for a verdict, and the exit status with it.
 use Rattle.std.specs.Prelude.{ℕ, List, ◌++◌, codes}
-use Rattle.mc_history.specs.Claim.{Claim}
-use Rattle.mc_history.specs.PrintedHistory.{claim_text}
+use Rattle.mc_history.specs.{Claim.Claim, PrintedHistory.claim_text}
 use Rattle.mc_explain.specs.declared.verdict.Verdict.{Verdict}
 use Rattle.mc_explain.specs.declared.verdict.Verdict.TheVariants as verdict
 use Rattle.mc_answers.specs.declared.status.Status.{Status}

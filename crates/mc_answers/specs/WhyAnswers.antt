@@ -1,17 +1,11 @@
 -- What stands after a verdict where the line asks why nothing explains a history.
 use Rattle.std.specs.Prelude.{◌≡◌, ℕ, ◌+◌, Bool, true, false, Option, Some, None, List, [], drop, filter, map, min, slice_index_or}
-use Rattle.mc_protocol.specs.Decimals.{MAX_64}
 use Rattle.mc_protocol.specs.Lines.{Line, begins_with, counted, lines_of_text, words_of}
-use Rattle.mc_protocol.specs.Words.{actor_word}
-use Rattle.mc_protocol.specs.declared.actor.Actor.{Actor}
-use Rattle.mc_protocol.specs.declared.lines.Separator.TheVariants.{Space}
-use Rattle.mc_model.specs.Notes.{History, Noted}
-use Rattle.mc_model.specs.Sections.{Sections}
+use Rattle.mc_protocol.specs.{Decimals.MAX_64, Words.actor_word, declared.actor.Actor.Actor, declared.lines.Separator.TheVariants.Space}
+use Rattle.mc_model.specs.{Notes.History, Notes.Noted, Sections.Sections}
 use Rattle.mc_explain.specs.declared.verdict.Verdict.{Verdict}
 use Rattle.mc_explain.specs.declared.verdict.Verdict.TheVariants as verdict
-use Rattle.mc_why.specs.Causes.{IsFoundOf, place_of}
-use Rattle.mc_why.specs.WhyText.{request_place, why_text}
-use Rattle.mc_why.specs.declared.cause.Finding.{Finding}
+use Rattle.mc_why.specs.{Causes.IsFoundOf, Causes.place_of, WhyText.request_place, WhyText.why_text, declared.cause.Finding.Finding}
 use Rattle.mc_answers.specs.declared.why.Counted.{Counted}
 use Rattle.mc_answers.specs.declared.why.Counted.TheVariants as counted_in
 

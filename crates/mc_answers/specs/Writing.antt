@@ -1,7 +1,6 @@
 -- What a call does that writes what is answered.
 use Rattle.std.specs.Prelude.{◌≡◌, ◌⊎◌, ℕ, Bool, true, false, Option, List, codes}
-use Rattle.mc_answers.specs.Streams.{Grows}
-use Rattle.mc_answers.specs.declared.status.Status.{Status}
+use Rattle.mc_answers.specs.{Streams.Grows, declared.status.Status.Status}
 use Rattle.mc_answers.specs.declared.status.Status.TheVariants as status
 
 abbrev pub out_of_memory_text : List ℕ

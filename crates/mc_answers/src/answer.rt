@@ -1,7 +1,6 @@
 //! What is answered to a text, whatever it is asked.
 ghost use Rattle.std.specs.Prelude.{IfOk};
-ghost use Rattle.mc_answers.specs.Answers.{Does};
-ghost use Rattle.mc_answers.specs.Refusing.{Gives};
+ghost use Rattle.mc_answers.specs.{Answers.Does, Refusing.Gives};
 
 use crate::asm::assemble;
 use crate::check::check_as_asked;

@@ -1,9 +1,8 @@
 //! What `check` answers to an input.
 ghost use Rattle.std.specs.Prelude.{◌≡◌, IfOk, string_bytes, true};
-ghost use Rattle.mc_verify.specs.Checked.{IsChecked};
+ghost use Rattle.mc_sound.specs.Checked.{IsChecked};
 ghost use Rattle.mc_answers.specs.CheckAnswers as answers;
-ghost use Rattle.mc_answers.specs.InJson.{InJson};
-ghost use Rattle.mc_answers.specs.Refusing.{Gives};
+ghost use Rattle.mc_answers.specs.{InJson.InJson, Refusing.Gives};
 
 use crate::answer::Answer;
 use crate::in_json::found_in_json;

@@ -1,7 +1,6 @@
 //! What `drive` answers to a text: a script, and after it a step list.
 ghost use Rattle.std.specs.Prelude.{◌≡◌, IfOk};
-ghost use Rattle.mc_protocol.specs.Lines.{line_count, lines_of_text};
-ghost use Rattle.mc_protocol.specs.declared.lines.Separator.TheVariants.{Space};
+ghost use Rattle.mc_protocol.specs.{Lines.line_count, Lines.lines_of_text, declared.lines.Separator.TheVariants.Space};
 ghost use Rattle.mc_answers.specs.DriveAnswers as answers;
 ghost use Rattle.mc_answers.specs.Refusing.{Gives, IfRefused};
 
@@ -17,7 +16,7 @@ use mc_explain::Verdict;
 use mc_hints::Refused;
 use mc_history::{Event, StepsFault, parse_steps};
 use mc_protocol::{Actor, Lines, Separator, fault_of_input};
-use mc_verify::Checked;
+use mc_sound::Checked;
 use std::alloc::{AllocError, Global};
 
 /// Reads a script and the steps after it, leads the script's code through the steps, and judges what they came to.

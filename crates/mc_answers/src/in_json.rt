@@ -1,7 +1,6 @@
 //! An answer in JSON.
 ghost use Rattle.std.specs.Prelude.{◌≡◌, IfOk};
-ghost use Rattle.mc_answers.specs.InJson.{HasStatusOf};
-ghost use Rattle.mc_answers.specs.Refusing.{Gives};
+ghost use Rattle.mc_answers.specs.{InJson.HasStatusOf, Refusing.Gives};
 
 use crate::answer::Answer;
 use crate::refusal::Unanswered;

@@ -1,8 +1,7 @@
 //! What `join` answers to reports.
 ghost use Rattle.std.specs.Prelude.{◌≡◌, IfOk};
 ghost use Rattle.mc_answers.specs.JoinAnswers as answers;
-ghost use Rattle.mc_answers.specs.JoinAnswers.{IsReportStatus};
-ghost use Rattle.mc_answers.specs.Refusing.{Gives};
+ghost use Rattle.mc_answers.specs.{JoinAnswers.IsReportStatus, Refusing.Gives};
 ghost use Rattle.mc_join.specs.Refusals.{refusal_text};
 
 use crate::answer::Answer;

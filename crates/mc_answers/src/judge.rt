@@ -2,10 +2,9 @@
 ghost use Rattle.std.specs.Prelude.{◌≢◌, IfOk};
 ghost use Rattle.mc_hints.specs.Refusals.{history_refusal};
 ghost use Rattle.mc_model.specs.declared.rules.HistoryKind.TheVariants as kind;
-ghost use Rattle.mc_answers.specs.InJson.{InJson};
+ghost use Rattle.mc_answers.specs.{InJson.InJson, Refusing.Gives, Refusing.IfRefused, Refusing.IsRefusal};
 ghost use Rattle.mc_answers.specs.JudgeAnswers as answers;
 ghost use Rattle.mc_answers.specs.Judging as judging;
-ghost use Rattle.mc_answers.specs.Refusing.{Gives, IfRefused, IsRefusal};
 
 use crate::answer::Answer;
 use crate::in_json::found_in_json;

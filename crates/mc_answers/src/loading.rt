@@ -1,8 +1,8 @@
 //! Reading code: a script's, which is assembled, or an image's; and whether it is sound.
 ghost use Rattle.std.specs.Prelude.{◌≡◌, ◌≢◌, IfErr, IfOk};
 ghost use Rattle.mc_script_text.specs.declared.fault.ScriptKind.TheVariants as script_kind;
-ghost use Rattle.mc_verify.specs.Checked.{IsRightRefusal};
-ghost use Rattle.mc_verify.specs.Faults.{IsSound};
+ghost use Rattle.mc_verify.specs.Refusals.{IsRightRefusal};
+ghost use Rattle.mc_sound.specs.Faults.{IsSound};
 ghost use Rattle.mc_answers.specs.Loading as loading;
 ghost use Rattle.mc_answers.specs.Refusing.{IfRefused};
 

@@ -9,7 +9,7 @@ use mc_core::{Ending, World};
 use mc_explain::Verdict;
 use mc_history::{Explanation, print_explanation};
 use mc_protocol::{Actor, Fault};
-use mc_verify::Checked;
+use mc_sound::Checked;
 use std::alloc::{AllocError, Global};
 
 /// A line for each section: how it stands.

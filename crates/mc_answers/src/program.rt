@@ -1,15 +1,12 @@
 //! What is done for a line that asks a question about its input, or for a generated script.
 ghost use Rattle.std.specs.Prelude.{◌≡◌, ◌≢◌, ◌⊎◌, ℕ, List, String, true, false, map, string_bytes, IfOk};
-ghost use Rattle.std.specs.Global.{Global};
+ghost use Rattle.std.specs.{Global.Global, IoError.error_kind};
 ghost use Rattle.mc_cli.specs.Asking.{AsksFor, IsFaulty, MayShow, MayTell};
 ghost use Rattle.mc_answers.specs.Answers.{AnswersBy, AnswersQuestion, IsAnswerTo, IsWhole, most_read, not_utf8_text};
 ghost use Rattle.mc_answers.specs.Command.{needs_network, reads_history, reads_input};
-ghost use Rattle.mc_answers.specs.GenerateAnswers.{Generates};
-ghost use Rattle.mc_answers.specs.Input as input_rule;
-ghost use Rattle.mc_answers.specs.Statuses.{status_number};
-ghost use Rattle.mc_answers.specs.Streams.{Grows, TakesAtMost};
 ghost use Rattle.mc_answers.specs.Writing.{WritesBy, out_of_memory_text};
-ghost use Rattle.std.specs.IoError.{error_kind};
+ghost use Rattle.mc_answers.specs.{GenerateAnswers.Generates, Statuses.status_number, Streams.Grows, Streams.TakesAtMost};
+ghost use Rattle.mc_answers.specs.Input as input_rule;
 ghost use Rattle.std.specs.declared.io.ErrorKind.TheVariants as io_kind;
 
 use crate::answer::{Answer, answer_to};

@@ -1,17 +1,14 @@
 //! A list of steps, from the world in which nothing happened to their last.
 ghost use Rattle.std.specs.Prelude.{◌≡◌, ◌+◌, ◌-◌, ◌^◌, ◌<◌, ◌≤◌, ◌∷◌, [], ◌++◌, List, length, IfOk};
 ghost use Rattle.mc_code.specs.Code.{Code};
-ghost use Rattle.mc_core.specs.Held.{IsHeldBy};
-ghost use Rattle.mc_core.specs.Histories.{record_of, recorded_after};
-ghost use Rattle.mc_core.specs.Safety.{AreSmall, IsSafe};
-ghost use Rattle.mc_core.specs.Steps.{IsFold};
+ghost use Rattle.mc_core.specs.{Held.IsHeldBy, Histories.record_of, Histories.recorded_after, Safety.AreSmall, Safety.IsSafe, Steps.IsFold};
 ghost use Rattle.mc_core.specs.Worlds as worlds;
 ghost use Rattle.mc_answers.specs.StepLines.{AreMadeBy};
 
 use mc_core::{World, folds_are_safe};
 use mc_history::Event;
 use mc_protocol::Actor;
-use mc_verify::Checked;
+use mc_sound::Checked;
 use std::alloc::{AllocError, Global};
 
 /// Where steps led.

@@ -1,8 +1,7 @@
 //! What stands after a verdict where the line asks why nothing explains a history.
 ghost use Rattle.std.specs.Prelude.{◌≡◌, true, IfOk};
 ghost use Rattle.mc_protocol.specs.Lines.{counted};
-ghost use Rattle.mc_explain.specs.Hopeless.{IsUnexplained};
-ghost use Rattle.mc_explain.specs.Verdicts.{IsTrueOf};
+ghost use Rattle.mc_explain.specs.{Hopeless.IsUnexplained, Verdicts.IsTrueOf};
 ghost use Rattle.mc_answers.specs.WhyAnswers as answers;
 
 use mc_cli::Search;

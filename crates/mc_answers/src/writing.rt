@@ -1,7 +1,6 @@
 //! Writing an answer.
 ghost use Rattle.std.specs.Prelude.{◌≡◌, ◌⊎◌, false, true};
-ghost use Rattle.mc_answers.specs.Streams.{Grows};
-ghost use Rattle.mc_answers.specs.Writing.{out_of_memory_text};
+ghost use Rattle.mc_answers.specs.{Streams.Grows, Writing.out_of_memory_text};
 
 use crate::input::InputFault;
 use crate::status::Status;

@@ -1,15 +1,10 @@
 -- One more job: its number after those before it, what it came to, and its line after theirs.
 use Rattle.std.proofs.Common.{◌≡◌, ℕ, ◌+◌, ◌<◌, List, [], ◌∷◌, ◌++◌, length, map, take, get_or, refl, sym, ap, subst, ◌∙◌}
-use Rattle.std.specs.Prelude.{Option}
-use Rattle.std.specs.List.{All, flat_map, range_with_len}
-use Rattle.std.specs.Option.{option_copied}
 use Rattle.std.proofs.lemmas.List.{map-append, map-id, take_more, flat_map_more}
-use Rattle.std.proofs.lemmas.List.Elements.{All-push}
-use Rattle.std.proofs.lemmas.List.FromFn.{map-range_with_len_more}
+use Rattle.std.proofs.{lemmas.List.Elements.All-push, lemmas.List.FromFn.map-range_with_len_more}
+use Rattle.std.specs.{Prelude.Option, List.All, List.flat_map, List.range_with_len, Option.option_copied}
 use Rattle.mc_protocol.specs.Lines.{Word}
-use Rattle.mc_campaign.specs.Outcomes.{IsJudgedWithin, IsOutcome}
-use Rattle.mc_campaign.specs.declared.campaign.Campaign.{Campaign}
-use Rattle.mc_campaign.specs.declared.outcome.JobResult.{JobResult}
+use Rattle.mc_campaign.specs.{Outcomes.IsJudgedWithin, Outcomes.IsOutcome, declared.campaign.Campaign.Campaign, declared.outcome.JobResult.JobResult}
 
 range_more : (a n : ℕ) → range_with_len a (n + 1) ≡ range_with_len a n ++ (a + n) ∷ []
 range_more a n =

@@ -1,18 +1,12 @@
 -- Where a name leaves the keys of all jobs short, no job of a report was kept from running by a key that is too long.
-use Rattle.std.proofs.Common.{◌≡◌, ℕ, ◌+◌, ◌<◌, Some, None, List, length, map, get_or, Result, Ok, Err, IfOk, sym, ap, subst, ◌∙◌, arith}
-use Rattle.std.specs.Prelude.{Option}
-use Rattle.std.specs.List.{All, range_with_len}
-use Rattle.std.proofs.lemmas.List.{get_or-map, length-map}
-use Rattle.std.proofs.lemmas.List.FromFn.{get_or-range_with_len, length-range_with_len}
+use Rattle.std.proofs.Common.{◌≡◌, ℕ, ◌+◌, ◌<◌, Some, None, List, length, get_or, Result, Ok, Err, IfOk, sym, ap, subst, ◌∙◌, arith}
+use Rattle.std.proofs.{lemmas.List.get_or-map, lemmas.List.length-map, lemmas.List.FromFn.get_or-range_with_len, lemmas.List.FromFn.length-range_with_len}
+use Rattle.std.specs.{Prelude.Option, List.All, List.range_with_len}
 use Rattle.mc_protocol.specs.Lines.{Word}
 use Rattle.mc_settings.specs.JobKeys.{NameFits}
 use Rattle.mc_generate.specs.JobCodes.{HasLongKey}
-use Rattle.mc_campaign.specs.Outcomes.{HasShortKeys, IsOutcome}
-use Rattle.mc_campaign.specs.Reports.{Reported}
-use Rattle.mc_generate.specs.declared.fault.JobFault.TheVariants as fault
 use Rattle.mc_campaign.specs.declared.outcome.JobOutcome.{JobOutcome}
-use Rattle.mc_campaign.specs.declared.outcome.JobOutcome.TheVariants as outcome
-use Rattle.mc_campaign.specs.declared.outcome.JobResult.{JobResult}
+use Rattle.mc_campaign.specs.{Outcomes.HasShortKeys, Outcomes.IsOutcome, Reports.Reported, declared.outcome.JobResult.JobResult}
 use Rattle.mc_campaign.proofs.MoreJobs.{IsRight, numbers}
 
 -- none of the jobs has a key that is too long under the name

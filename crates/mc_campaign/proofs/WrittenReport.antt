@@ -1,8 +1,6 @@
 -- What was written of a report's results, and appended to other bytes.
 use Rattle.std.proofs.Common.{◌≡◌, ℕ, List, ◌++◌, Result, Ok, Err, is_ok, OnOk, if◌then◌else◌, ap, subst, ◌∙◌}
-use Rattle.mc_campaign.specs.ReportText.{brief_report_text, report_text}
-use Rattle.mc_campaign.specs.Reports.{Reported}
-use Rattle.mc_campaign.specs.declared.outcome.JobResult.{JobResult}
+use Rattle.mc_campaign.specs.{ReportText.brief_report_text, ReportText.report_text, Reports.Reported, declared.outcome.JobResult.JobResult}
 
 -- what was written of these results is the text of the report that has them
 pub text_whole : {S : Type 0} {a b : Reported S} (text : List ℕ) (results : List (JobResult S)) → text ≡ report_text results

@@ -2,14 +2,10 @@
 use Rattle.std.specs.Prelude.{◌≡◌, ◌==◌, ◌%◌, ◌+◌, ◌*◌, ◌-◌, ◌/◌, ◌^◌, ◌≤◌, ℕ, if◌then◌else◌, nat_lt, max, bit_xor}
 use Rattle.std.specs.Prelude.{Option, Some, None, [], ◌∷◌, map}
 use Rattle.core.specs.Int.{w16, leading_zeros}
-use Rattle.rand_pcg.specs.Lcg.{increment_of, started}
-use Rattle.rand_pcg.specs.Pcg.{multiplier_64}
-use Rattle.mc_run.specs.declared.manner.Branch.{Branch}
+use Rattle.rand_pcg.specs.{Lcg.increment_of, Lcg.started, Pcg.multiplier_64}
+use Rattle.mc_run.specs.{declared.manner.Branch.Branch, declared.manner.Late.Late, declared.manner.Manner.Manner, declared.manner.Meet.Meet}
 use Rattle.mc_run.specs.declared.manner.Branch.TheVariants as branch
-use Rattle.mc_run.specs.declared.manner.Late.{Late}
-use Rattle.mc_run.specs.declared.manner.Manner.{Manner}
 use Rattle.mc_run.specs.declared.manner.Manner.TheVariants as manner
-use Rattle.mc_run.specs.declared.manner.Meet.{Meet}
 use Rattle.mc_generate.specs.Outputs.{Outputs, outputs_of, rest, draw}
 use Rattle.mc_settings.specs.declared.meeting.Meeting.{Meeting}
 use Rattle.mc_settings.specs.declared.meeting.Meeting.TheVariants as meeting

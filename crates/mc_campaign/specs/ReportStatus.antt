@@ -7,9 +7,8 @@ use Rattle.mc_core.specs.declared.ending.Ending.{Ending}
 use Rattle.mc_core.specs.declared.ending.Ending.TheVariants as ending
 use Rattle.mc_explain.specs.declared.verdict.Verdict.{Verdict}
 use Rattle.mc_explain.specs.declared.verdict.Verdict.TheVariants as verdict
-use Rattle.mc_campaign.specs.declared.outcome.JobOutcome.{JobOutcome}
+use Rattle.mc_campaign.specs.{declared.outcome.JobOutcome.JobOutcome, declared.outcome.JobResult.JobResult}
 use Rattle.mc_campaign.specs.declared.outcome.JobOutcome.TheVariants as outcome
-use Rattle.mc_campaign.specs.declared.outcome.JobResult.{JobResult}
 
 -- ---- sections
 

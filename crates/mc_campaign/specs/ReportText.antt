@@ -1,20 +1,15 @@
 -- The text of a report.
 use Rattle.std.specs.Prelude.{ℕ, Bool, true, false, List, [], ◌++◌, length, codes, decimal, flat_map, count_by, if◌then◌else◌}
-use Rattle.mc_protocol.specs.Faults.{fault_name}
-use Rattle.mc_protocol.specs.Words.{actor_word}
-use Rattle.mc_protocol.specs.declared.actor.Actor.{Actor}
+use Rattle.mc_protocol.specs.{Faults.fault_name, Words.actor_word, declared.actor.Actor.Actor, declared.sections.Sections.Sections}
 use Rattle.mc_protocol.specs.declared.actor.Actor.TheVariants as actor
-use Rattle.mc_protocol.specs.declared.sections.Sections.{Sections}
 use Rattle.mc_core.specs.declared.ending.Ending.{Ending}
 use Rattle.mc_core.specs.declared.ending.Ending.TheVariants as ending
 use Rattle.mc_explain.specs.declared.verdict.Verdict.{Verdict}
 use Rattle.mc_explain.specs.declared.verdict.Verdict.TheVariants as verdict
 use Rattle.mc_campaign.specs.declared.outcome.JobOutcome.{JobOutcome}
+use Rattle.mc_campaign.specs.{declared.outcome.JobResult.JobResult, declared.standing.Standing.Standing, ReportStatus.is_clean}
 use Rattle.mc_campaign.specs.declared.outcome.JobOutcome.TheVariants as outcome
-use Rattle.mc_campaign.specs.declared.outcome.JobResult.{JobResult}
-use Rattle.mc_campaign.specs.declared.standing.Standing.{Standing}
 use Rattle.mc_campaign.specs.declared.standing.Standing.TheVariants as standing
-use Rattle.mc_campaign.specs.ReportStatus.{is_clean}
 
 -- ---- the line of a job
 

@@ -1,8 +1,7 @@
 //! What gathers the results of a campaign.
 
 ghost use Rattle.std.specs.Prelude.{◌≡◌, ◌≤◌, ◌+◌, ◌^◌, map, true, All, IfOk};
-ghost use Rattle.std.specs.List.{range_with_len};
-ghost use Rattle.std.specs.Option.{option_copied};
+ghost use Rattle.std.specs.{List.range_with_len, Option.option_copied};
 ghost use Rattle.mc_campaign.specs.Outcomes.{IsJudgedWithin, IsOutcome};
 
 use crate::job::run_job;

@@ -1,8 +1,10 @@
 //! The run of one job.
 
-ghost use Rattle.std.specs.Prelude.{◌≡◌, length, IfOk, IfSome, None};
+ghost use Rattle.std.specs.Prelude.{◌≡◌, ℕ, length, IfOk, IfSome, None};
 ghost use Rattle.std.specs.Option.{option_copied};
-ghost use Rattle.mc_run.specs.Running.{AreNew, IsNew};
+ghost use Rattle.mc_code.specs.Code.{Code};
+ghost use Rattle.mc_explain.specs.Verdicts.{IsWithin};
+ghost use Rattle.mc_run.specs.{Judged.IsJudged, Running.AreNew, Running.IsNew};
 ghost use Rattle.mc_campaign.specs.Outcomes.{IsJudgedWithin, IsOutcome, IsOutcomeOf, closed_lanes};
 
 use crate::{Campaign, Connector, JobOutcome};
@@ -10,10 +12,10 @@ use core::thread::Stack;
 use mc_generate::generate_under;
 use mc_lane::{Lane, Stream};
 use mc_protocol::{Actor, Sections};
-use mc_run::{Gate, Judged, Lanes, Run, play};
-use mc_verify::Checked;
+use mc_run::{Desk, Gate, Judged, Lanes, Run, RunError, play, play_beside};
+use mc_sound::Checked;
 use std::alloc::Global;
-use std::sync::Wait;
+use std::sync::{Arc, Wait};
 use std::thread::Threads;
 
 /// The most bytes that a lane receives.
@@ -33,6 +35,25 @@ pub(crate) fn run_job<S: Stream + Send, C: Connector<S>, G: Gate, R: Threads + W
 {
     match generate_under(alloc, campaign.seed, campaign.name, job) {
         Ok(checked) => play_job(rt, alloc, campaign, connector, gate, job, &checked),
+        Err(fault) => JobOutcome::NotMade(fault),
+    }
+}
+
+/// The same over a desk, so that no thread is made.
+pub(crate) fn run_job_beside<S: Stream, C: Connector<S>, G: Gate, R: Wait>(
+    rt: &R,
+    alloc: Global,
+    campaign: Campaign<'_>,
+    connector: &C,
+    gate: &G,
+    job: u64,
+    desk: &Desk<S>,
+) -> JobOutcome<S>
+    ensures outcome { IsOutcome campaign.entry.seed (option_copied campaign.entry.name) job result }
+    ensures turns { IsJudgedWithin campaign.entry.limit result }
+{
+    match generate_under(alloc, campaign.seed, campaign.name, job) {
+        Ok(checked) => play_job_beside(rt, alloc, campaign, connector, gate, job, checked, desk),
         Err(fault) => JobOutcome::NotMade(fault),
     }
 }
@@ -67,15 +88,53 @@ pub fn play_job<S: Stream + Send, C: Connector<S>, G: Gate, R: Threads + Wait + 
         meet,
         campaign.limit,
     );
+    match played {
+        Ok(judged) => end_job(connector, judged),
+        Err(error) => JobOutcome::NotRun(error),
+    }
+}
+
+/// As `play_job`, but over a desk.
+fn play_job_beside<S: Stream, C: Connector<S>, G: Gate, R: Wait>(
+    rt: &R,
+    alloc: Global,
+    campaign: Campaign<'_>,
+    connector: &C,
+    gate: &G,
+    job: u64,
+    checked: Checked,
+    desk: &Desk<S>,
+) -> JobOutcome<S>
+    ensures outcome { IsOutcomeOf checked.code result }
+    ensures turns { IsJudgedWithin campaign.entry.limit result }
+{
+    let lanes = match connect_lanes(alloc, connector, job) {
+        Ok(lanes) => lanes,
+        Err(actor) => return JobOutcome::NoLane(actor),
+    };
+    let Ok(checked) = Arc::new(alloc, checked) else {
+        return JobOutcome::NotRun(RunError::OutOfMemory);
+    };
+    let meet = campaign.meet(job);
+    let played = play_beside(rt, alloc, &checked, lanes, gate, desk, meet, campaign.limit);
+    match played {
+        Ok(judged) => end_job(connector, judged),
+        Err(error) => JobOutcome::NotRun(error),
+    }
+}
+
+/// What a job came to that was judged. Its lanes are closed, and their streams given back.
+fn end_job<S: Stream, C: Connector<S>>(connector: &C, judged: Judged<S>) -> JobOutcome<S>
+    ensures outcome { (code : Code) → IsJudged code judged.run.world judged.run.lanes judged.history judged.verdict
+        → IsOutcomeOf code result }
+    ensures turns { (limit : ℕ) → IsWithin limit judged.verdict judged.turns → IsJudgedWithin limit result }
+{
     let Judged {
         run,
         history,
         verdict,
         turns,
-    } = match played {
-        Ok(judged) => judged,
-        Err(error) => return JobOutcome::NotRun(error),
-    };
+    } = judged;
     let Run { world, lanes } = run;
     let lanes = close_lanes(connector, lanes);
     JobOutcome::Ran {

@@ -69,12 +69,26 @@ impl<'a, S: Stream + Send> JobMessage<'a, S> {
         ensures outcome { IsOutcome campaign.entry.seed (option_copied campaign.entry.name) job result.outcome }
         ensures turns { IsJudgedWithin campaign.entry.limit result.outcome }
     {
+        let outcome = run_job(rt, alloc, campaign, connector, gate, job);
+        JobMessage::of(campaign, job, outcome)
+    }
+
+    /// The message that a job of the campaign came to this.
+    pub(crate) fn of(campaign: Campaign<'a>, job: u64, came_to: JobOutcome<S>) -> Self
+        requires right { IsOutcome campaign.seed (option_copied campaign.name) job came_to }
+        requires within { IsJudgedWithin campaign.limit came_to }
+        ensures seed { result.seed ≡ campaign.entry.seed }
+        ensures limit { result.limit ≡ campaign.entry.limit }
+        ensures name { result.name ≡ option_copied campaign.entry.name }
+        ensures job { result.job ≡ job }
+        ensures outcome { result.outcome ≡ came_to }
+    {
         JobMessage {
             seed: campaign.seed,
             limit: campaign.limit,
             name: campaign.name,
             job,
-            outcome: run_job(rt, alloc, campaign, connector, gate, job),
+            outcome: came_to,
         }
     }
 

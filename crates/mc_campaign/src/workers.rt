@@ -1,17 +1,17 @@
 //! The threads of a campaign.
 
 ghost use Rattle.std.specs.Prelude.{◌≡◌, ◌≤◌, ◌+◌, ◌^◌, map, All, IfOk, None};
-ghost use Rattle.std.specs.List.{range_with_len};
-ghost use Rattle.std.specs.Option.{option_copied};
+ghost use Rattle.std.specs.{List.range_with_len, Option.option_copied};
 ghost use Rattle.mc_settings.specs.JobKeys.{NameFits};
 ghost use Rattle.mc_campaign.specs.Outcomes.{HasShortKeys, IsJudgedWithin, IsOutcome};
 
+use crate::job::run_job_beside;
 use crate::{
     Campaign, CampaignError, Collector, Connector, JobMessage, Report, Unwatched, Watcher,
 };
 use crossbeam_channel::{Receiver, Sender, unbounded};
 use mc_lane::Stream;
-use mc_run::Gate;
+use mc_run::{Desk, Gate};
 use mc_settings::Meeting;
 use std::alloc::Global;
 use std::sync::Wait;
@@ -183,7 +183,7 @@ fn run_in_scope<
     Ok(collector.finish(rt, alloc, connector, gate, watcher)?)
 }
 
-/// Starts the workers, each with these ends of the channels, as threads of the scope.
+/// Starts the workers, each with these ends of the channels and a second thread for its jobs, as threads of the scope.
 fn start_workers<
     's,
     'a: 's,
@@ -206,8 +206,21 @@ fn start_workers<
     'workers: for _ in 0..workers {
         let jobs = jobs.clone()?;
         let to_collector = to_collector.clone()?;
-        let worker = move || work(rt, alloc, campaign, connector, gate, jobs, to_collector);
-        if scope.spawn(worker).is_err() {
+        let (desk, second) = Desk::new(rt, alloc, workers)?;
+        let serve = move || second.serve(rt, alloc, gate);
+        let worker = move || {
+            work(
+                rt,
+                alloc,
+                campaign,
+                connector,
+                gate,
+                &desk,
+                jobs,
+                to_collector,
+            )
+        };
+        if scope.spawn(serve).is_err() || scope.spawn(worker).is_err() {
             return Err(CampaignError::NoThread);
         }
     }
@@ -241,14 +254,15 @@ fn gather<'a, S: Stream + Send, R: Wait, W: Watcher<S>>(
     collector
 }
 
-/// Runs one job after the other, until there are no more, and sends what each came to. A result for which there is no memory is
-/// lost, and its job is left to the collector.
+/// Runs one job after the other over the desk, until there are no more, and sends what each came to. A result for which there is no
+/// memory is lost, and its job is left to the collector.
 fn work<'a, S: Stream + Send, C: Connector<S>, G: Gate, R: Threads + Wait + Sync>(
     rt: &R,
     alloc: Global,
     campaign: Campaign<'a>,
     connector: &C,
     gate: &G,
+    desk: &Desk<S>,
     jobs: Receiver<u64>,
     to_collector: Sender<JobMessage<'a, S>>,
 ) {
@@ -256,7 +270,8 @@ fn work<'a, S: Stream + Send, C: Connector<S>, G: Gate, R: Threads + Wait + Sync
         let Ok(job) = jobs.recv(rt) else {
             break;
         };
-        let message = JobMessage::run(rt, alloc, campaign, connector, gate, job);
+        let outcome = run_job_beside(rt, alloc, campaign, connector, gate, job, desk);
+        let message = JobMessage::of(campaign, job, outcome);
         drop(to_collector.send(rt, message));
     }
 }

@@ -1,19 +1,16 @@
 -- A line asks for one thing at most, and what is answered to one that asks for nothing.
 use Rattle.std.proofs.Common.{◌≡◌, ◌∙◌, ap, sym, inl, inr, ℕ, List, [], Option, Some, codes, unwrap_or}
-use Rattle.clap.specs.Words.{IsAmong, Text}
-use Rattle.clap.specs.declared.error.kind.ErrorKind.{ErrorKind}
+use Rattle.clap.specs.{Words.IsAmong, Words.Text, declared.error.kind.ErrorKind.ErrorKind}
 use Rattle.clap.specs.declared.error.kind.ErrorKind.TheVariants as kind
 use Rattle.mc_protocol.specs.Decimals.{MAX_64}
 use Rattle.mc_cli.proofs.Names as names
 use Rattle.mc_cli.proofs.Once.{check_once, convert_once, draw_once, judge_once, maybe_once, plan_once, search_once, service_once}
 use Rattle.mc_cli.proofs.Once.{stress_once, value_once}
-use Rattle.mc_cli.specs.Args.{count, number}
 use Rattle.mc_cli.specs.Asking.{AsksFor, HasFault, IsAskedBy, IsAskedWith, IsFaultOf, IsLike, IsShown, Says, name_of}
 use Rattle.mc_cli.specs.Line.{line_command, line_faults, line_value}
+use Rattle.mc_cli.specs.{Args.count, Args.number, declared.request.LineFault.LineFault, declared.request.Request.Request}
 use Rattle.mc_cli.specs.declared.question.Question.TheVariants as question
-use Rattle.mc_cli.specs.declared.request.LineFault.{LineFault}
 use Rattle.mc_cli.specs.declared.request.LineFault.TheVariants as line_fault
-use Rattle.mc_cli.specs.declared.request.Request.{Request}
 use Rattle.mc_cli.specs.declared.request.Request.TheVariants as request
 use Rattle.mc_cli.specs.declared.rows.Kind.TheVariants as kind_of
 

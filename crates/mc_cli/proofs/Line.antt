@@ -2,12 +2,9 @@
 use Rattle.std.proofs.Common.{◌≡◌, ◌∙◌, refl, sym, ap, true, Option, ℕ, List, Some, None, option_map}
 use Rattle.std.specs.Prelude.{option_and_then}
 use Rattle.clap.specs.Words.{App, HasMatchesOf, Row, Text, fault_of, first_of, first_value, found_of, is_simple, is_simple_and_free}
-use Rattle.clap.specs.Words.{rows_of, subcommand_name_of, subcommand_of, subcommand_rows_of}
-use Rattle.clap.specs.declared.parser.matches.ArgMatches.{ArgMatches}
-use Rattle.clap.proofs.OnLiterals.{clap_on_literals}
-use Rattle.clap.proofs.WalkLemmas.{first_value-rows}
-use Rattle.mc_cli.specs.Commands.{program_app}
-use Rattle.mc_cli.specs.Line.{line_command, line_faults, line_value}
+use Rattle.clap.specs.{Words.rows_of, Words.subcommand_name_of, Words.subcommand_of, Words.subcommand_rows_of, declared.parser.matches.ArgMatches.ArgMatches}
+use Rattle.clap.proofs.{OnLiterals.clap_on_literals, WalkLemmas.first_value-rows}
+use Rattle.mc_cli.specs.{Commands.program_app, Line.line_command, Line.line_faults, Line.line_value}
 
 -- the name of a subcommand that was found, and the first value of an option or an argument of it
 abbrev given_name : Option (Text × List Row) → Option Text

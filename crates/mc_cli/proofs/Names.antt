@@ -1,20 +1,11 @@
 -- What a subcommand's name says of what is asked for.
 use Rattle.std.proofs.Common.{◌≡◌, refl, subst, true, false, ℕ, Bool, bytes_eq, codes}
 use Rattle.clap.specs.Words.{Text}
-use Rattle.mc_cli.specs.Asking.{name_of}
-use Rattle.mc_cli.specs.declared.args.CampaignArgs.{CampaignArgs}
-use Rattle.mc_cli.specs.declared.args.CheckArgs.{CheckArgs}
-use Rattle.mc_cli.specs.declared.args.ConvertArgs.{ConvertArgs}
-use Rattle.mc_cli.specs.declared.args.DrawArgs.{DrawArgs}
-use Rattle.mc_cli.specs.declared.args.JudgeArgs.{JudgeArgs}
-use Rattle.mc_cli.specs.declared.args.RecordArgs.{RecordArgs}
-use Rattle.mc_cli.specs.declared.args.RunArgs.{RunArgs}
-use Rattle.mc_cli.specs.declared.args.Search.{Search}
-use Rattle.mc_cli.specs.declared.args.ServeArgs.{ServeArgs}
-use Rattle.mc_cli.specs.declared.args.StressArgs.{StressArgs}
-use Rattle.mc_cli.specs.declared.args.TestArgs.{TestArgs}
+use Rattle.mc_cli.specs.{Asking.name_of, declared.args.CampaignArgs.CampaignArgs, declared.args.CheckArgs.CheckArgs, declared.args.ConvertArgs.ConvertArgs}
+use Rattle.mc_cli.specs.{declared.args.DrawArgs.DrawArgs, declared.args.JudgeArgs.JudgeArgs, declared.args.RecordArgs.RecordArgs, declared.args.RunArgs.RunArgs}
+use Rattle.mc_cli.specs.{declared.args.Search.Search, declared.args.ServeArgs.ServeArgs, declared.args.StressArgs.StressArgs, declared.args.TestArgs.TestArgs}
+use Rattle.mc_cli.specs.{declared.request.Request.Request}
 use Rattle.mc_cli.specs.declared.question.Question.TheVariants as question
-use Rattle.mc_cli.specs.declared.request.Request.{Request}
 use Rattle.mc_cli.specs.declared.request.Request.TheVariants as request
 
 abbrev pub either : Bool → Type 0 → Type 0 → Type 0

@@ -7,23 +7,12 @@ use Rattle.mc_protocol.specs.Decimals.{MAX_64}
 use Rattle.mc_settings.specs.declared.mix.Mix.{Mix}
 use Rattle.mc_settings.specs.declared.mix.Mix.TheVariants as mix
 use Rattle.mc_cli.specs.Args.{AreJobs, GREATEST_JOBS, IsCheck, IsConvert, IsDraw, IsJudge, IsPlan, IsRepeat, IsSearch, IsService, IsUntil}
-use Rattle.mc_cli.specs.Args.{IsMix, IsStressPlan, mix_word}
-use Rattle.mc_cli.specs.Args.{MayBeName, count, notation_word, number}
-use Rattle.mc_cli.specs.Kinds.{IsValue, MayBeValue, reads}
-use Rattle.mc_cli.specs.Line.{is_set}
-use Rattle.mc_cli.specs.declared.args.CheckArgs.{CheckArgs}
-use Rattle.mc_cli.specs.declared.args.ConvertArgs.{ConvertArgs}
-use Rattle.mc_cli.specs.declared.args.DrawArgs.{DrawArgs}
-use Rattle.mc_cli.specs.declared.args.JudgeArgs.{JudgeArgs}
-use Rattle.mc_cli.specs.declared.args.Notation.{Notation}
+use Rattle.mc_cli.specs.{Args.IsMix, Args.IsStressPlan, Args.mix_word, Args.MayBeName, Args.count, Args.notation_word, Args.number, Kinds.IsValue}
+use Rattle.mc_cli.specs.{Kinds.MayBeValue, Kinds.reads, Line.is_set, declared.args.CheckArgs.CheckArgs, declared.args.ConvertArgs.ConvertArgs}
+use Rattle.mc_cli.specs.{declared.args.DrawArgs.DrawArgs, declared.args.JudgeArgs.JudgeArgs, declared.args.Notation.Notation, declared.args.Plan.Plan}
+use Rattle.mc_cli.specs.{declared.args.Repeat.Repeat, declared.args.Search.Search, declared.args.ServeArgs.ServeArgs, declared.args.StressPlan.StressPlan}
+use Rattle.mc_cli.specs.{declared.args.Until.Until, declared.rows.Kind.Kind}
 use Rattle.mc_cli.specs.declared.args.Notation.TheVariants as notation
-use Rattle.mc_cli.specs.declared.args.Plan.{Plan}
-use Rattle.mc_cli.specs.declared.args.Repeat.{Repeat}
-use Rattle.mc_cli.specs.declared.args.Search.{Search}
-use Rattle.mc_cli.specs.declared.args.ServeArgs.{ServeArgs}
-use Rattle.mc_cli.specs.declared.args.StressPlan.{StressPlan}
-use Rattle.mc_cli.specs.declared.args.Until.{Until}
-use Rattle.mc_cli.specs.declared.rows.Kind.{Kind}
 use Rattle.mc_cli.specs.declared.rows.Kind.TheVariants as kind
 
 same : (one other : ℕ) → Some one ≡ Some other → one ≡ other

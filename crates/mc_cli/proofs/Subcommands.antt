@@ -1,7 +1,6 @@
 -- What clap reads of a command with one subcommand more.
 use Rattle.std.proofs.Common.{ap, ap₂, true, ◌≡◌, ◌∙◌}
-use Rattle.clap.specs.Words.{AddsSubcommand, App, app_of, with_subcommand}
-use Rattle.clap.specs.declared.builder.command.Command.{Command}
+use Rattle.clap.specs.{Words.AddsSubcommand, Words.App, Words.app_of, Words.with_subcommand, declared.builder.command.Command.Command}
 use Rattle.clap.proofs.SimpleLemmas.{plain_fields}
 
 pub added : {old sub new : Command} {whole part : App} → AddsSubcommand old sub new → app_of old ≡ whole → app_of sub ≡ part

@@ -3,20 +3,15 @@ use Rattle.std.specs.Prelude.{◌≡◌, ◌+◌, ◌-◌, ◌≤◌, ◌^◌, �
 use Rattle.std.specs.Prelude.{codes, option_map, if◌then◌else◌}
 use Rattle.clap.specs.Words.{Text}
 use Rattle.mc_protocol.specs.Decimals.{MAX_64}
-use Rattle.mc_settings.specs.JobKeys.{NameFits}
-use Rattle.mc_settings.specs.Namespaces.{is_namespace}
-use Rattle.mc_settings.specs.declared.meeting.Meeting.{Meeting}
+use Rattle.mc_settings.specs.{JobKeys.NameFits, Namespaces.is_namespace, declared.meeting.Meeting.Meeting, declared.mix.Mix.Mix}
 use Rattle.mc_settings.specs.declared.meeting.Meeting.TheVariants as meeting
-use Rattle.mc_settings.specs.declared.mix.Mix.{Mix}
 use Rattle.mc_settings.specs.declared.mix.Mix.TheVariants as mix
-use Rattle.mc_cli.specs.Kinds.{IsValue, MayBeValue}
-use Rattle.mc_cli.specs.Line.{is_set}
 use Rattle.mc_cli.specs.declared.args.{CampaignArgs.CampaignArgs, Plan.Plan, Repeat.Repeat, RunArgs.RunArgs, Search.Search}
 use Rattle.mc_cli.specs.declared.args.{CheckArgs.CheckArgs, ConvertArgs.ConvertArgs, DrawArgs.DrawArgs, JudgeArgs.JudgeArgs}
 use Rattle.mc_cli.specs.declared.args.{Notation.Notation, RecordArgs.RecordArgs, ServeArgs.ServeArgs, StressArgs.StressArgs}
 use Rattle.mc_cli.specs.declared.args.{StressPlan.StressPlan, TestArgs.TestArgs, Until.Until}
+use Rattle.mc_cli.specs.{Kinds.IsValue, Kinds.MayBeValue, Line.is_set, declared.rows.Kind.Kind}
 use Rattle.mc_cli.specs.declared.args.Notation.TheVariants as notation
-use Rattle.mc_cli.specs.declared.rows.Kind.{Kind}
 use Rattle.mc_cli.specs.declared.rows.Kind.TheVariants as kind
 
 -- the most jobs that a line may name

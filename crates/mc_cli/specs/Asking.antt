@@ -1,15 +1,13 @@
 -- What the words of a line ask for.
 use Rattle.std.specs.Prelude.{◌≡◌, ◌⊎◌, ℕ, Option, Some, List, [], codes}
-use Rattle.clap.specs.Words.{IsAmong, Text}
-use Rattle.clap.specs.declared.error.kind.ErrorKind.{ErrorKind}
+use Rattle.clap.specs.{Words.IsAmong, Words.Text, declared.error.kind.ErrorKind.ErrorKind}
 use Rattle.clap.specs.declared.error.kind.ErrorKind.TheVariants as kind
 use Rattle.mc_cli.specs.Args.{IsCampaignArgs, IsCheck, IsConvert, IsDraw, IsJob, IsJudge, IsRecordArgs, IsRunArgs}
-use Rattle.mc_cli.specs.Args.{IsSearch, IsService, IsStressArgs, IsTestArgs}
 use Rattle.mc_cli.specs.Line.{is_set, line_command, line_faults, line_value}
 use Rattle.mc_cli.specs.declared.args.{CampaignArgs.CampaignArgs, RecordArgs.RecordArgs, RunArgs.RunArgs, StressArgs.StressArgs}
-use Rattle.mc_cli.specs.declared.args.TestArgs.{TestArgs}
-use Rattle.mc_cli.specs.declared.question.Question.TheVariants as question
 use Rattle.mc_cli.specs.declared.request.{LineFault.LineFault, Request.Request}
+use Rattle.mc_cli.specs.{Args.IsSearch, Args.IsService, Args.IsStressArgs, Args.IsTestArgs, declared.args.TestArgs.TestArgs}
+use Rattle.mc_cli.specs.declared.question.Question.TheVariants as question
 use Rattle.mc_cli.specs.declared.request.LineFault.TheVariants as line_fault
 use Rattle.mc_cli.specs.declared.request.Request.TheVariants as request
 

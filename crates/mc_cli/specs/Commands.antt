@@ -1,8 +1,7 @@
 -- The program's subcommands and their options, as clap reads them.
 use Rattle.std.specs.Prelude.{List, [], ◌∷◌, Some, true, codes, fold}
 use Rattle.clap.specs.Words.{App, Rule, Text, new_app, new_rule, with_rule, with_subcommand}
-use Rattle.clap.specs.Simple.{new_shape}
-use Rattle.clap.specs.declared.builder.action.ArgAction.TheVariants.{SetTrue}
+use Rattle.clap.specs.{Simple.new_shape, declared.builder.action.ArgAction.TheVariants.SetTrue}
 use Rattle.mc_cli.specs.declared.rows.{Kind.Kind, Place.Place, Row.Row}
 use Rattle.mc_cli.specs.declared.rows.Kind.TheVariants as kind
 use Rattle.mc_cli.specs.declared.rows.Place.TheVariants as place

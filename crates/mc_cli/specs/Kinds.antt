@@ -2,8 +2,7 @@
 use Rattle.std.specs.Prelude.{◌≡◌, ◌≤◌, ◌+◌, ◌-◌, ◌*◌, ◌^◌, ◌==◌, ℕ, nat_le, Bool, ◌&&◌, Option, Some, None, Ok, Err, Result, List}
 use Rattle.std.specs.Prelude.{bytes_eq, codes, length, take, drop, option_and_then, if◌then◌else◌}
 use Rattle.std.specs.List.{position}
-use Rattle.mc_protocol.specs.Decimals.{SpellsNumber, decimal_in}
-use Rattle.mc_protocol.specs.declared.decimal.DecimalFault.{DecimalFault}
+use Rattle.mc_protocol.specs.{Decimals.SpellsNumber, Decimals.decimal_in, declared.decimal.DecimalFault.DecimalFault}
 use Rattle.mc_cli.specs.declared.rows.Kind.{Kind}
 use Rattle.mc_cli.specs.declared.rows.Kind.TheVariants as kind
 

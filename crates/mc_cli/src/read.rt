@@ -3,8 +3,7 @@ ghost use Rattle.std.specs.Prelude.{◌≡◌, ◌≤◌, ℕ, Option, codes, is
 ghost use Rattle.clap.specs.Words.{first_value, found_of};
 ghost use Rattle.mc_cli.specs.Args as spec;
 ghost use Rattle.mc_cli.specs.Args.{IsCheck, IsConvert, IsDraw, IsJob, IsJudge, IsRecordArgs, IsRepeat, IsRunArgs, IsTestArgs};
-ghost use Rattle.mc_cli.specs.Args.{IsSearch, IsService};
-ghost use Rattle.mc_cli.specs.Kinds.{IsValue};
+ghost use Rattle.mc_cli.specs.{Args.IsSearch, Args.IsService, Kinds.IsValue};
 
 use crate::args::{
     CheckArgs, ConvertArgs, DrawArgs, JudgeArgs, RecordArgs, Repeat, RunArgs, Search, ServeArgs,

@@ -1,7 +1,7 @@
 //! What the values of the options of `campaign` ask for.
 ghost use Rattle.std.specs.Prelude.{◌≡◌, ◌+◌, ◌-◌, ◌≤◌, ◌^◌, ◌↔◌, ℕ, nat_lt, Bool, Option, codes, true, IfErr, IfOk, if◌then◌else◌};
-ghost use Rattle.mc_protocol.specs.Decimals.{MAX_64};
 ghost use Rattle.std.specs.Option.{option_copied};
+ghost use Rattle.mc_protocol.specs.Decimals.{MAX_64};
 ghost use Rattle.clap.specs.Words.{first_value, found_of};
 ghost use Rattle.mc_settings.specs.JobKeys.{NameFits};
 ghost use Rattle.mc_cli.specs.Args.{AreForms, AreJobs, IsCampaignArgs, IsPlan, IsRandomSeed, IsUntil};

@@ -1,10 +1,8 @@
 //! The values of a subcommand's options, each read by its row: the first word that the line gives is what counts.
 ghost use Rattle.std.specs.Prelude.{◌≡◌, ℕ, List, Option, Some, IfErr, IfOk, option_map};
 ghost use Rattle.clap.specs.Words.{first_value, found_of};
-ghost use Rattle.mc_settings.specs.declared.meeting.Meeting.{Meeting};
-ghost use Rattle.mc_settings.specs.declared.mix.Mix.{Mix};
-ghost use Rattle.mc_cli.specs.Args.{IsMeeting, IsMix, MayBeName, notation_word};
-ghost use Rattle.mc_cli.specs.Kinds.{IsValue, MayBeValue};
+ghost use Rattle.mc_settings.specs.{declared.meeting.Meeting.Meeting, declared.mix.Mix.Mix};
+ghost use Rattle.mc_cli.specs.{Args.IsMeeting, Args.IsMix, Args.MayBeName, Args.notation_word, Kinds.IsValue, Kinds.MayBeValue};
 ghost use Rattle.mc_cli.specs.Line as line;
 
 use crate::args::{Notation, Seconds, SoughtKey};

@@ -4,17 +4,11 @@ use Rattle.mc_protocol.specs.declared.actor.Actor.{Actor}
 use Rattle.mc_protocol.specs.declared.actor.Actor.TheVariants as actor
 use Rattle.mc_script.specs.Script as script
 use Rattle.mc_script.specs.WellFormed.{IsScript}
-use Rattle.mc_code.specs.Agreement.{Agrees}
-use Rattle.mc_code.specs.Code as code
 use Rattle.mc_code.specs.Layout.{code_place, templates_of, first_template, instructions_of, code_of}
-use Rattle.mc_code.specs.Runs.{Exchange, IsRun, met_at}
-use Rattle.mc_code.specs.ScriptRuns.{all_steps, all_labels, ScriptComesTo}
-use Rattle.mc_code.specs.Standing.{ComesTo}
-use Rattle.mc_code.specs.States.{Tagged, State, initial_state, Outcome}
-use Rattle.mc_code.proofs.Backwards.{comes_to_too}
-use Rattle.mc_code.proofs.Forwards.{forwards}
-use Rattle.mc_code.proofs.StepFacts.{same_outcome}
-use Rattle.mc_code.proofs.WellLaid.{script_laid}
+use Rattle.mc_code.specs.{Agreement.Agrees, Runs.Exchange, Runs.IsRun, Runs.met_at, ScriptRuns.all_steps, ScriptRuns.all_labels, ScriptRuns.ScriptComesTo}
+use Rattle.mc_code.specs.{Standing.ComesTo, States.Tagged, States.State, States.initial_state, States.Outcome}
+use Rattle.mc_code.specs.Code as code
+use Rattle.mc_code.proofs.{Backwards.comes_to_too, Forwards.forwards, StepFacts.same_outcome, WellLaid.script_laid}
 
 -- what the instructions of a section do
 abbrev CodeComesTo : script.Script → Actor → List Tagged → List Exchange → State → Outcome → Type 0

@@ -1,22 +1,15 @@
 -- A run of a script's code is one of the script.
 use Rattle.std.proofs.Common.{◌≡◌, ◌⊎◌, inl, inr, ℕ, ◌+◌, Bool, true, false, Option, Some, None, List}
 use Rattle.std.proofs.Common.{[], ◌∷◌, slice_get, refl, ap, sym, subst, ◌∙◌, if◌then◌else◌, arith}
-use Rattle.mc_protocol.specs.Legal.{class_of, is_fit_for}
-use Rattle.mc_protocol.specs.declared.reply.Class.{Class}
-use Rattle.mc_protocol.specs.declared.reply.Reply.{Reply}
-use Rattle.mc_script.specs.declared.section.Label.{Label}
-use Rattle.mc_script.specs.declared.step.Step.{Step}
+use Rattle.mc_protocol.specs.{Legal.class_of, Legal.is_fit_for, declared.reply.Class.Class, declared.reply.Reply.Reply}
+use Rattle.mc_script.specs.{declared.section.Label.Label, declared.step.Step.Step, declared.step.Template.Template, WellFormed.is_number_class}
 use Rattle.mc_script.specs.declared.step.Step.TheVariants as step
-use Rattle.mc_script.specs.declared.step.Template.{Template}
-use Rattle.mc_script.specs.WellFormed.{is_number_class}
-use Rattle.mc_code.specs.declared.instr.Instr.{Instr}
-use Rattle.mc_code.specs.declared.instr.Instr.TheVariants as instr
-use Rattle.mc_code.specs.Layout.{code_place, after_label, label_place, entry_for, entries}
-use Rattle.mc_code.specs.Paths.{Slides, Sends}
-use Rattle.mc_code.specs.Runs.{Exchange, after_slide, met_at, IsRun, rests, slides, sends}
 use Rattle.mc_code.specs.ScriptRuns.{IsScriptRun, jump_on, place_of_label, next_of, bind_reply, met_at_step}
-use Rattle.mc_code.specs.ScriptRuns as script_run
 use Rattle.mc_code.specs.States.{State, after_reply, after_bind, Outcome, nothing_to_bind, is_number}
+use Rattle.mc_code.specs.{declared.instr.Instr.Instr, Layout.code_place, Layout.after_label, Layout.label_place, Layout.entry_for, Layout.entries, Paths.Slides}
+use Rattle.mc_code.specs.{Paths.Sends, Runs.Exchange, Runs.after_slide, Runs.met_at, Runs.IsRun, Runs.rests, Runs.slides, Runs.sends}
+use Rattle.mc_code.specs.declared.instr.Instr.TheVariants as instr
+use Rattle.mc_code.specs.ScriptRuns as script_run
 use Rattle.mc_code.proofs.LookUps.{some_is, number_at, code_of_all, first_of_step, second_of_step, after_steps, next_place}
 use Rattle.mc_code.proofs.StepFacts.{HasLabel, Binds, IsLaid, entry_is, fit_is_legal, number_shown, same_outcome}
 

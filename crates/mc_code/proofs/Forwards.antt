@@ -1,19 +1,13 @@
 -- A run of a script is one of its code.
 use Rattle.std.proofs.Common.{◌≡◌, ℕ, ◌+◌, Bool, true, false, Option, Some, None, List, ◌∷◌, slice_get, refl, sym, subst, if◌then◌else◌, arith}
-use Rattle.mc_protocol.specs.Legal.{class_of, is_fit_for}
-use Rattle.mc_protocol.specs.declared.reply.Class.{Class}
-use Rattle.mc_protocol.specs.declared.reply.Reply.{Reply}
-use Rattle.mc_script.specs.declared.section.Label.{Label}
-use Rattle.mc_script.specs.declared.step.Step.{Step}
+use Rattle.mc_protocol.specs.{Legal.class_of, Legal.is_fit_for, declared.reply.Class.Class, declared.reply.Reply.Reply}
+use Rattle.mc_script.specs.{declared.section.Label.Label, declared.step.Step.Step, declared.step.Template.Template, WellFormed.is_number_class}
 use Rattle.mc_script.specs.declared.step.Step.TheVariants as step
-use Rattle.mc_script.specs.declared.step.Template.{Template}
-use Rattle.mc_script.specs.WellFormed.{is_number_class}
 use Rattle.mc_code.specs.declared.instr.Instr.TheVariants as instr
 use Rattle.mc_code.specs.Layout.{code_place, label_place, entry_for, entries}
-use Rattle.mc_code.specs.Runs.{Exchange, IsRun}
-use Rattle.mc_code.specs.Runs as run
 use Rattle.mc_code.specs.ScriptRuns.{IsScriptRun, rests, binds, goes, sends, jump_on, next_of, bind_reply}
-use Rattle.mc_code.specs.States.{State, after_reply, after_bind}
+use Rattle.mc_code.specs.{Runs.Exchange, Runs.IsRun, States.State, States.after_reply, States.after_bind}
+use Rattle.mc_code.specs.Runs as run
 use Rattle.mc_code.proofs.LookUps.{some_is, number_at, code_of_all, first_of_step, second_of_step, next_place}
 use Rattle.mc_code.proofs.StepFacts.{Binds, IsLaid, place_is, entry_is, fit_is_legal}
 

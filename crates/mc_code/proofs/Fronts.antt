@@ -1,14 +1,11 @@
 -- The steps that clear the keys: how many they are, and what stands after them.
 use Rattle.std.proofs.Common.{◌≡◌, ℕ, ◌+◌, List, [], ◌∷◌, ◌++◌, length, refl, ap, ◌∙◌, arith, length-append}
 use Rattle.std.proofs.lemmas.Grind.{flat_map-append}
-use Rattle.mc_protocol.specs.declared.actor.Actor.{Actor}
+use Rattle.mc_protocol.specs.{declared.actor.Actor.Actor, Lines.Word}
 use Rattle.mc_protocol.specs.declared.actor.Actor.TheVariants as actor
-use Rattle.mc_protocol.specs.Lines.{Word}
-use Rattle.mc_script.specs.declared.step.Step.{Step}
-use Rattle.mc_script.specs.Script.{Script, section_of}
+use Rattle.mc_script.specs.{declared.step.Step.Step, Script.Script, Script.section_of}
 use Rattle.mc_code.specs.ScriptRuns.{clearing_steps, front_of, all_steps}
-use Rattle.mc_code.specs.Layout.{request_of, requests_of, size_of_all}
-use Rattle.mc_code.specs.Assembling.{cleared_keys}
+use Rattle.mc_code.specs.{Layout.request_of, Layout.requests_of, Layout.size_of_all, Assembling.cleared_keys}
 
 pub front-is : (s : Script) (actor : Actor) → front_of s actor ≡ clearing_steps 0 (cleared_keys s actor)
 front-is s actor.P = refl

@@ -1,35 +1,23 @@
 -- The layout of a script keeps what code keeps, where the counts are within their limits.
 use Rattle.std.proofs.Common.{◌≡◌, ℕ, zero, suc, ◌+◌, ◌<◌, ◌≤◌, Bool, true, false, Option, Some, None, List, [], ◌∷◌}
 use Rattle.std.proofs.Common.{◌++◌, length, slice_get, refl, sym, subst, if◌then◌else◌, arith, length-append}
-use Rattle.std.specs.List.{All}
 use Rattle.std.proofs.lemmas.List.Elements.{All-nil, All-cons, All-head, All-tail, All-append, All-map}
-use Rattle.std.proofs.lemmas.Grind.{flat_map-append}
-use Rattle.std.proofs.lemmas.Nat.{pow_pos}
-use Rattle.mc_protocol.specs.Legal.{is_legal}
-use Rattle.mc_protocol.specs.declared.actor.Actor.{Actor}
+use Rattle.std.proofs.{lemmas.Grind.flat_map-append, lemmas.Nat.pow_pos}
+use Rattle.std.specs.List.{All}
+use Rattle.mc_protocol.specs.{Legal.is_legal, declared.actor.Actor.Actor, declared.reply.Class.Class, Lines.Word, Words.all_classes}
 use Rattle.mc_protocol.specs.declared.actor.Actor.TheVariants as actor
-use Rattle.mc_protocol.specs.declared.reply.Class.{Class}
-use Rattle.mc_protocol.specs.Lines.{Word}
-use Rattle.mc_protocol.specs.Words.{all_classes}
 use Rattle.mc_script.specs.declared.limits.TheConstants.{FLAGS_LIMIT, VARIABLES_LIMIT}
-use Rattle.mc_script.specs.declared.section.Label.{Label}
-use Rattle.mc_script.specs.declared.step.Step.{Step}
+use Rattle.mc_script.specs.{declared.section.Label.Label, declared.step.Step.Step, declared.step.Template.Template, Script.Names, Script.Script}
+use Rattle.mc_script.specs.{Script.section_of, Templates.IsTemplate, WellFormed.IsScript, WellFormed.IsStep, WellFormed.AreSteps, WellFormed.is_number_class}
 use Rattle.mc_script.specs.declared.step.Step.TheVariants as step
-use Rattle.mc_script.specs.declared.step.Template.{Template}
-use Rattle.mc_script.specs.Script.{Names, Script, section_of}
-use Rattle.mc_script.specs.Templates.{IsTemplate}
-use Rattle.mc_script.specs.WellFormed.{IsScript, IsStep, AreSteps, is_number_class}
 use Rattle.mc_code.specs.declared.instr.Instr.TheVariants as instr
 use Rattle.mc_code.specs.declared.limits.TheConstants.{TEMPLATES_LIMIT, INSTRUCTIONS_LIMIT}
-use Rattle.mc_code.specs.Agreement.{Agrees}
-use Rattle.mc_code.specs.Code as code
 use Rattle.mc_code.specs.ScriptRuns.{clearing, clearing_steps, front_of, all_steps, all_labels, jump_on}
 use Rattle.mc_code.specs.Layout.{request_of, requests_of, templates_of, size_of, size_of_all, code_place, after_label}
 use Rattle.mc_code.specs.Layout.{label_place, entry, entry_for, entries, bind_code, step_code, code_from, first_template}
-use Rattle.mc_code.specs.Layout.{section_code, code_of, template_count, instruction_count}
-use Rattle.mc_code.proofs.Agreeing.{code_agrees}
-use Rattle.mc_code.proofs.Bounds.{section-kept, declared-few}
-use Rattle.mc_code.proofs.Rooms.{section-within}
+use Rattle.mc_code.specs.{Agreement.Agrees, Layout.section_code, Layout.code_of, Layout.template_count, Layout.instruction_count}
+use Rattle.mc_code.specs.Code as code
+use Rattle.mc_code.proofs.{Agreeing.code_agrees, Bounds.section-kept, Bounds.declared-few, Rooms.section-within}
 
 -- ---- places
 

@@ -2,26 +2,18 @@
 use Rattle.std.proofs.Common.{◌≡◌, ℕ, zero, suc, ◌+◌, ◌<◌, ◌≤◌, Bool, true, false, Option, Some, None, List, []}
 use Rattle.std.proofs.Common.{◌∷◌, ◌++◌, map, length, take, refl, sym, ap, subst, ◌∙◌, if◌then◌else◌, arith}
 use Rattle.std.proofs.Math.Seq.{take-append-add}
-use Rattle.mc_protocol.specs.Legal.{is_legal}
-use Rattle.mc_protocol.specs.declared.actor.Actor.{Actor}
+use Rattle.mc_protocol.specs.{Legal.is_legal, declared.actor.Actor.Actor, declared.reply.Class.Class, Lines.Word, Words.all_classes}
 use Rattle.mc_protocol.specs.declared.actor.Actor.TheVariants as actor
-use Rattle.mc_protocol.specs.declared.reply.Class.{Class}
 use Rattle.mc_protocol.specs.declared.request.Verb.TheVariants as verb
-use Rattle.mc_protocol.specs.Lines.{Word}
-use Rattle.mc_protocol.specs.Words.{all_classes}
-use Rattle.mc_script.specs.declared.section.Label.{Label}
-use Rattle.mc_script.specs.declared.step.Step.{Step}
-use Rattle.mc_script.specs.declared.step.Step.TheVariants as step
-use Rattle.mc_script.specs.declared.step.Template.{Template}
-use Rattle.mc_script.specs.Script.{Script, section_of}
 use Rattle.mc_script.specs.WellFormed.{IsScript, AreLabels, is_number_class}
+use Rattle.mc_script.specs.{declared.section.Label.Label, declared.step.Step.Step, declared.step.Template.Template, Script.Script, Script.section_of}
+use Rattle.mc_script.specs.declared.step.Step.TheVariants as step
 use Rattle.mc_code.specs.declared.instr.Instr.TheVariants as instr
-use Rattle.mc_code.specs.declared.limits.TheConstants.{NO_ENTRY}
-use Rattle.mc_code.specs.ScriptRuns.{clearing, clearing_steps, shift_label, jump_on}
 use Rattle.mc_code.specs.Layout.{request_of, size_of, size_of_all, code_place, label_place, entry, entry_for}
 use Rattle.mc_code.specs.Layout.{entries, bind_code, step_code, code_from, first_template, instructions_of}
 use Rattle.mc_code.specs.Assembling.{cleared_keys, Places, place_in, places_from, label_places, places_of, onward_from, entry_by, legal_entry}
 use Rattle.mc_code.specs.Assembling.{legal_entries, instructions_for, instructions_from, clearing_send, clearing_code}
+use Rattle.mc_code.specs.{declared.limits.TheConstants.NO_ENTRY, ScriptRuns.clearing, ScriptRuns.clearing_steps, ScriptRuns.shift_label, ScriptRuns.jump_on}
 use Rattle.mc_code.proofs.Fronts.{clearing-length}
 
 map-same : {X Y : Type 0} (f g : X → Y) → ((x : X) → f x ≡ g x) → (xs : List X) → map f xs ≡ map g xs

@@ -1,33 +1,20 @@
 -- The layout of a script leads forwards.
 use Rattle.std.proofs.Common.{◌==◌, ◌≡◌, ◌⊎◌, inl, inr, ℕ, ◌+◌, ◌<◌, ◌≤◌, zero, suc, Bool, true, false, Option, Some, None, List, []}
 use Rattle.std.proofs.Common.{◌∷◌, ◌++◌, map, option_map, length, take, slice_get, refl, ap, sym, subst, ◌∙◌, if◌then◌else◌, arith}
-use Rattle.std.proofs.lemmas.List.{length-append}
-use Rattle.std.proofs.lemmas.Option.{slice_get-map}
-use Rattle.mc_protocol.specs.Legal.{is_legal}
-use Rattle.mc_protocol.specs.declared.actor.Actor.{Actor}
+use Rattle.std.proofs.{lemmas.List.length-append, lemmas.Option.slice_get-map}
+use Rattle.mc_protocol.specs.{Legal.is_legal, declared.actor.Actor.Actor, declared.request.Verb.Verb, declared.reply.Class.Class, Lines.Word, Words.class_index}
 use Rattle.mc_protocol.specs.declared.actor.Actor.TheVariants as actor
-use Rattle.mc_protocol.specs.declared.request.Verb.{Verb}
-use Rattle.mc_protocol.specs.declared.reply.Class.{Class}
-use Rattle.mc_protocol.specs.Lines.{Word}
-use Rattle.mc_protocol.specs.Words.{class_index}
-use Rattle.mc_script.specs.declared.section.Label.{Label}
-use Rattle.mc_script.specs.declared.step.Step.{Step}
-use Rattle.mc_script.specs.declared.step.Step.TheVariants as step
-use Rattle.mc_script.specs.declared.step.Template.{Template}
-use Rattle.mc_script.specs.Script.{Names, Script}
 use Rattle.mc_script.specs.WellFormed.{AreJumps, AreSteps, IsAfter, IsScript, IsStep, is_number_class}
-use Rattle.mc_code.specs.declared.instr.Instr.{Instr}
-use Rattle.mc_code.specs.declared.instr.Instr.TheVariants as instr
-use Rattle.mc_code.specs.declared.limits.TheConstants.{NO_ENTRY}
+use Rattle.mc_script.specs.{declared.section.Label.Label, declared.step.Step.Step, declared.step.Template.Template, Script.Names, Script.Script}
+use Rattle.mc_script.specs.declared.step.Step.TheVariants as step
 use Rattle.mc_code.specs.Layout.{request_of, requests_of, size_of, size_of_all, code_place, after_label, label_place, entry_for}
 use Rattle.mc_code.specs.Layout.{entries, step_code, code_from, templates_of, first_template, instructions_of}
 use Rattle.mc_code.specs.LayoutLaws.{EntriesAreLegal, LayoutsLeadForwards}
-use Rattle.mc_code.specs.Paths.{LeadsForwards, Slides, Sends, entry_of}
 use Rattle.mc_code.specs.ScriptRuns.{clearing_steps, front_of, all_steps, shift_label, all_labels, jump_on}
-use Rattle.mc_code.proofs.Kept.{code-length, place-below}
+use Rattle.mc_code.specs.{declared.instr.Instr.Instr, declared.limits.TheConstants.NO_ENTRY, Paths.LeadsForwards, Paths.Slides, Paths.Sends, Paths.entry_of}
+use Rattle.mc_code.specs.declared.instr.Instr.TheVariants as instr
 use Rattle.mc_code.proofs.LookUps.{some_is, code_length, requests_before, next_place}
-use Rattle.mc_code.proofs.StepFacts.{IsLaid, entry_at, entry_is}
-use Rattle.mc_code.proofs.WellLaid.{script_laid}
+use Rattle.mc_code.proofs.{Kept.code-length, Kept.place-below, StepFacts.IsLaid, StepFacts.entry_at, StepFacts.entry_is, WellLaid.script_laid}
 
 -- ---- labels stand after their use
 

@@ -2,28 +2,18 @@
 use Rattle.std.proofs.Common.{◌≡◌, ℕ, zero, suc, Bool, true, false, ◌&&◌, Some, List, [], ◌∷◌, ◌++◌, map}
 use Rattle.std.proofs.Common.{slice_get, slice_index_or, refl, ap, sym, subst, ◌∙◌, if◌then◌else◌}
 use Rattle.std.proofs.lemmas.List.{append-nil, append_assoc}
-use Rattle.mc_protocol.specs.Legal.{class_of, is_fit_for}
-use Rattle.mc_protocol.specs.declared.actor.Actor.{Actor}
-use Rattle.mc_protocol.specs.declared.reply.Class.{Class}
-use Rattle.mc_protocol.specs.declared.reply.Reply.{Reply}
-use Rattle.mc_script.specs.declared.step.Argument.{Argument}
+use Rattle.mc_protocol.specs.{Legal.class_of, Legal.is_fit_for, declared.actor.Actor.Actor, declared.reply.Class.Class, declared.reply.Reply.Reply}
+use Rattle.mc_script.specs.{declared.step.Argument.Argument, declared.step.Template.Template}
 use Rattle.mc_script.specs.declared.step.Argument.TheVariants as argument
-use Rattle.mc_script.specs.declared.step.Template.{Template}
-use Rattle.mc_code.specs.declared.instr.Call.{Call}
-use Rattle.mc_code.specs.declared.instr.Instr.{Instr}
-use Rattle.mc_code.specs.declared.instr.Instr.TheVariants as instr
-use Rattle.mc_code.specs.declared.kind.Kind.TheVariants as kind
 use Rattle.mc_code.specs.Calls.{IsCalling, MakesAll, exchange_of, template_of, no_template}
-use Rattle.mc_code.specs.Code.{Code, instructions_in}
-use Rattle.mc_code.specs.Paths.{Sends, entry_of}
-use Rattle.mc_code.specs.Runs.{Exchange, IsRun, met_at, met_by_send, rests, slides, sends}
-use Rattle.mc_code.specs.Standing.{ComesTo, IsRightAlong, StandsAt, is_right, met_in}
-use Rattle.mc_code.specs.StandingLaws.{CallsStand, RightRunsAreCalled}
 use Rattle.mc_code.specs.States.{Tagged, nothing, State, initial_state, after_reply, Outcome, call, wrong_kind}
 use Rattle.mc_code.specs.States.{call_with, with_argument, send_outcome, wanted_by, is_same}
-use Rattle.mc_code.proofs.LookUps.{some_is}
-use Rattle.mc_code.proofs.RunLemmas.{run_sends, run_slides}
-use Rattle.mc_code.proofs.StandingLemmas.{template_is}
+use Rattle.mc_code.specs.{declared.instr.Call.Call, declared.instr.Instr.Instr, Code.Code, Code.instructions_in, Paths.Sends, Paths.entry_of, Runs.Exchange}
+use Rattle.mc_code.specs.{Runs.IsRun, Runs.met_at, Runs.met_by_send, Runs.rests, Runs.slides, Runs.sends, Standing.ComesTo, Standing.IsRightAlong}
+use Rattle.mc_code.specs.{Standing.StandsAt, Standing.is_right, Standing.met_in, StandingLaws.CallsStand, StandingLaws.RightRunsAreCalled}
+use Rattle.mc_code.specs.declared.instr.Instr.TheVariants as instr
+use Rattle.mc_code.specs.declared.kind.Kind.TheVariants as kind
+use Rattle.mc_code.proofs.{LookUps.some_is, RunLemmas.run_sends, RunLemmas.run_slides, StandingLemmas.template_is}
 
 -- what is there is found, whatever stands for what isn't
 found : {X : Type 0} (xs : List X) (i : ℕ) (x other : X) → slice_get xs i ≡ Some x → slice_index_or xs i other ≡ x

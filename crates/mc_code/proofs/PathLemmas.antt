@@ -2,9 +2,8 @@
 use Rattle.std.proofs.Common.{◌≡◌, ℕ, Some, List, [], ◌∷◌, ◌++◌, slice_get, fold, refl, subst}
 use Rattle.mc_protocol.specs.declared.reply.Class.{Class}
 use Rattle.mc_script.specs.declared.step.Template.{Template}
-use Rattle.mc_code.specs.declared.instr.Instr.{Instr}
 use Rattle.mc_code.specs.Paths.{Edge, Slides, Sends, IsPath, stays, slides, sends}
-use Rattle.mc_code.specs.RunLaws.{PathsSplit}
+use Rattle.mc_code.specs.{declared.instr.Instr.Instr, RunLaws.PathsSplit}
 
 -- ---- longer paths
 

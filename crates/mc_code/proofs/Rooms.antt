@@ -1,21 +1,15 @@
 -- There is room for a section's templates and instructions where the counts are within their limits.
 use Rattle.std.proofs.Common.{◌≡◌, ℕ, ◌+◌, ◌<◌, ◌≤◌, List, [], ◌++◌, length, refl, ap, ◌∙◌, arith, length-append}
-use Rattle.mc_protocol.specs.declared.actor.Actor.{Actor}
+use Rattle.mc_protocol.specs.{declared.actor.Actor.Actor, Lines.Word}
 use Rattle.mc_protocol.specs.declared.actor.Actor.TheVariants as actor
-use Rattle.mc_protocol.specs.Lines.{Word}
 use Rattle.mc_script.specs.declared.section.Budget.{Budget}
-use Rattle.mc_script.specs.declared.section.Label.{Label}
-use Rattle.mc_script.specs.declared.step.Step.{Step}
-use Rattle.mc_script.specs.Script.{Script, section_of}
-use Rattle.mc_script.specs.WellFormed.{IsScript}
-use Rattle.mc_code.specs.declared.instr.Instr.{Instr}
+use Rattle.mc_script.specs.{declared.section.Label.Label, declared.step.Step.Step, Script.Script, Script.section_of, WellFormed.IsScript}
 use Rattle.mc_code.specs.declared.limits.TheConstants.{TEMPLATES_LIMIT, INSTRUCTIONS_LIMIT}
-use Rattle.mc_code.specs.Code as code
-use Rattle.mc_code.specs.ScriptRuns.{all_steps}
 use Rattle.mc_code.specs.Layout.{requests_of, size_of_all, template_count, instruction_count, first_template, instructions_of, section_code}
 use Rattle.mc_code.specs.Assembling.{cleared_keys, Places, places_of, instructions_from, clearing_code}
-use Rattle.mc_code.proofs.Fronts.{all_size, request_count_is}
-use Rattle.mc_code.proofs.Laid.{section-laid}
+use Rattle.mc_code.specs.{declared.instr.Instr.Instr, ScriptRuns.all_steps}
+use Rattle.mc_code.specs.Code as code
+use Rattle.mc_code.proofs.{Fronts.all_size, Fronts.request_count_is, Laid.section-laid}
 
 pub places-room : (s : Script) (actor : Actor) (keys : List Word) (steps : List Step) → keys ≡ cleared_keys s actor → steps ≡ (section_of s actor).steps
     → instruction_count s actor ≤ INSTRUCTIONS_LIMIT → length keys + size_of_all steps < INSTRUCTIONS_LIMIT

@@ -2,25 +2,20 @@
 use Rattle.std.proofs.Common.{◌≡◌, ℕ, Bool, true, false, Option, Some, None, List, [], ◌∷◌, ◌++◌, slice_get}
 use Rattle.std.proofs.Common.{slice_index_or, refl, ap, sym, subst, ◌∙◌, if◌then◌else◌}
 use Rattle.mc_protocol.specs.Legal.{class_of, is_legal, is_fit_for}
-use Rattle.mc_protocol.specs.declared.request.Verb.{Verb}
+use Rattle.mc_protocol.specs.{declared.request.Verb.Verb, declared.reply.Class.Class, declared.reply.Reply.Reply}
 use Rattle.mc_protocol.specs.declared.request.Verb.TheVariants as verb
-use Rattle.mc_protocol.specs.declared.reply.Class.{Class}
 use Rattle.mc_protocol.specs.declared.reply.Class.TheVariants as class
-use Rattle.mc_protocol.specs.declared.reply.Reply.{Reply}
 use Rattle.mc_protocol.specs.declared.reply.Reply.TheVariants as reply
-use Rattle.mc_script.specs.declared.step.Argument.{Argument}
+use Rattle.mc_script.specs.{declared.step.Argument.Argument, declared.step.Template.Template}
 use Rattle.mc_script.specs.declared.step.Argument.TheVariants as argument
-use Rattle.mc_script.specs.declared.step.Template.{Template}
-use Rattle.mc_code.specs.declared.instr.Instr.{Instr}
-use Rattle.mc_code.specs.declared.instr.Instr.TheVariants as instr
-use Rattle.mc_code.specs.declared.kind.Kind.TheVariants as kind
-use Rattle.mc_code.specs.Code.{instructions_in}
-use Rattle.mc_code.specs.Paths.{Edge, Slides, Sends, IsPath}
-use Rattle.mc_code.specs.Paths as path
 use Rattle.mc_code.specs.Runs.{Exchange, after_slide, IsRun, rests, slides, sends, met_by_send, met_at}
 use Rattle.mc_code.specs.RunLaws.{edges_of, CompletePathsEnd, EndsAreComplete, PathsAreRuns}
 use Rattle.mc_code.specs.States.{Tagged, nothing, is_number, State, initial_state, after_reply, call, wrong_kind, nothing_to_bind}
 use Rattle.mc_code.specs.States.{ended, call_with, with_argument, send_outcome, wanted_by, is_same}
+use Rattle.mc_code.specs.{declared.instr.Instr.Instr, Code.instructions_in, Paths.Edge, Paths.Slides, Paths.Sends, Paths.IsPath}
+use Rattle.mc_code.specs.declared.instr.Instr.TheVariants as instr
+use Rattle.mc_code.specs.declared.kind.Kind.TheVariants as kind
+use Rattle.mc_code.specs.Paths as path
 
 -- ---- longer runs
 

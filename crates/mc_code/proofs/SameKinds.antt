@@ -1,24 +1,19 @@
 -- The kinds of numbers follow the edges of a run.
 use Rattle.std.proofs.Common.{◌≡◌, ℕ, zero, suc, ◌≤◌, Bool, true, false, not, ◌&&◌, Some, None, List, [], ◌∷◌, slice_get}
 use Rattle.std.proofs.Common.{slice_set, refl, ap, sym, subst, ◌∙◌, inl, inr, if◌then◌else◌, arith}
-use Rattle.std.specs.List.{All}
 use Rattle.std.proofs.lemmas.List.Elements.{All-head, All-tail}
+use Rattle.std.specs.List.{All}
 use Rattle.mc_protocol.specs.Legal.{class_of, shows_number, is_fit_for}
-use Rattle.mc_protocol.specs.declared.request.Verb.{Verb}
-use Rattle.mc_protocol.specs.declared.reply.Class.{Class}
+use Rattle.mc_protocol.specs.{declared.request.Verb.Verb, declared.reply.Class.Class, declared.reply.Reply.Reply}
 use Rattle.mc_protocol.specs.declared.reply.Class.TheVariants as class
-use Rattle.mc_protocol.specs.declared.reply.Reply.{Reply}
 use Rattle.mc_protocol.specs.declared.reply.Reply.TheVariants as reply
 use Rattle.mc_script.specs.declared.step.Template.{Template}
-use Rattle.mc_code.specs.declared.instr.Instr.{Instr}
-use Rattle.mc_code.specs.declared.instr.Instr.TheVariants as instr
-use Rattle.mc_code.specs.declared.kind.Kind.{Kind}
-use Rattle.mc_code.specs.declared.kind.Kind.TheVariants as kind
 use Rattle.mc_code.specs.NumberLaws.{kinds_of, HaveSameKinds, IsFit, EdgesLeadAlike, KindsFollowEdges}
-use Rattle.mc_code.specs.Paths.{Edge, LeadsForwards, Slides, Sends}
-use Rattle.mc_code.specs.RunLaws.{edges_of}
 use Rattle.mc_code.specs.Runs.{Exchange, after_slide, IsRun, rests, slides, sends}
 use Rattle.mc_code.specs.States.{Tagged, State, after_reply, after_bind, is_number, shown_of}
+use Rattle.mc_code.specs.{declared.instr.Instr.Instr, declared.kind.Kind.Kind, Paths.Edge, Paths.LeadsForwards, Paths.Slides, Paths.Sends, RunLaws.edges_of}
+use Rattle.mc_code.specs.declared.instr.Instr.TheVariants as instr
+use Rattle.mc_code.specs.declared.kind.Kind.TheVariants as kind
 use Rattle.mc_protocol.proofs.FirstItems.{head_is, rest_is}
 use Rattle.mc_code.proofs.LookUps.{some_is}
 use Rattle.mc_code.proofs.Stopping.{RunBegins, rested, slid_first, sent_first, run_begins, slides_once, sends_once, slides_or_sends}

@@ -1,18 +1,14 @@
 -- The cas uniques that variables have were shown.
 use Rattle.std.proofs.Common.{◌≡◌, ◌⊎◌, inl, inr, ℕ, zero, suc, Bool, true, false, Some, None, List, [], ◌∷◌, slice_get, slice_set, refl, ap, if◌then◌else◌}
-use Rattle.mc_protocol.specs.declared.request.Verb.{Verb}
+use Rattle.mc_protocol.specs.{declared.request.Verb.Verb, declared.reply.Reply.Reply, Legal.is_fit_for}
 use Rattle.mc_protocol.specs.declared.request.Verb.TheVariants as verb
-use Rattle.mc_protocol.specs.declared.reply.Reply.{Reply}
 use Rattle.mc_protocol.specs.declared.reply.Reply.TheVariants as reply
-use Rattle.mc_protocol.specs.Legal.{is_fit_for}
 use Rattle.mc_script.specs.declared.step.Template.{Template}
-use Rattle.mc_code.specs.declared.instr.Instr.{Instr}
-use Rattle.mc_code.specs.declared.instr.Instr.TheVariants as instr
-use Rattle.mc_code.specs.declared.kind.Kind.{Kind}
-use Rattle.mc_code.specs.declared.kind.Kind.TheVariants as kind
-use Rattle.mc_code.specs.NumberLaws.{Holds, IsShownIn, NumbersWereShown, Shows}
 use Rattle.mc_code.specs.Runs.{Exchange, after_slide, IsRun, rests, slides, sends}
-use Rattle.mc_code.specs.States.{Tagged, State, after_reply, is_number, shown_of}
+use Rattle.mc_code.specs.{declared.instr.Instr.Instr, declared.kind.Kind.Kind, NumberLaws.Holds, NumberLaws.IsShownIn, NumberLaws.NumbersWereShown}
+use Rattle.mc_code.specs.{NumberLaws.Shows, States.Tagged, States.State, States.after_reply, States.is_number, States.shown_of}
+use Rattle.mc_code.specs.declared.instr.Instr.TheVariants as instr
+use Rattle.mc_code.specs.declared.kind.Kind.TheVariants as kind
 use Rattle.mc_code.proofs.LookUps.{some_is}
 
 -- what stands at a place after one was set

@@ -1,23 +1,14 @@
 -- Where a section stands: what P leaves, and the calls that are made.
 use Rattle.std.proofs.Common.{◌≡◌, ℕ, Bool, true, false, Option, Some, None, List, slice_get, slice_index_or, refl, ap, sym, subst, ◌∙◌, if◌then◌else◌}
 use Rattle.mc_protocol.specs.declared.actor.Actor.TheVariants as actor
-use Rattle.mc_script.specs.declared.step.Argument.{Argument}
+use Rattle.mc_script.specs.{declared.step.Argument.Argument, declared.step.Template.Template}
 use Rattle.mc_script.specs.declared.step.Argument.TheVariants as argument
-use Rattle.mc_script.specs.declared.step.Template.{Template}
-use Rattle.mc_code.specs.declared.instr.Call.{Call}
-use Rattle.mc_code.specs.declared.instr.Instr.{Instr}
+use Rattle.mc_code.specs.States.{Tagged, nothing, State, call, wrong_kind, ended, call_with, with_argument, send_outcome, wanted_by, is_same}
+use Rattle.mc_code.specs.{declared.instr.Call.Call, declared.instr.Instr.Instr, Code.instructions_in, Paths.Slides, RunLaws.edges_of, Runs.met_by_send}
+use Rattle.mc_code.specs.{Runs.met_at, Standing.met_in, Standing.no_variables, StandingLaws.CallsOnce, StandingLaws.CallsOpen, StandingLaws.LeavesOnce}
 use Rattle.mc_code.specs.declared.instr.Instr.TheVariants as instr
 use Rattle.mc_code.specs.declared.kind.Kind.TheVariants as kind
-use Rattle.mc_code.specs.Code.{instructions_in}
-use Rattle.mc_code.specs.Paths.{Slides}
-use Rattle.mc_code.specs.RunLaws.{edges_of}
-use Rattle.mc_code.specs.Runs.{met_by_send, met_at}
-use Rattle.mc_code.specs.Standing.{met_in, no_variables}
-use Rattle.mc_code.specs.StandingLaws.{CallsOnce, CallsOpen, LeavesOnce}
-use Rattle.mc_code.specs.States.{Tagged, nothing, State, call, wrong_kind, ended, call_with, with_argument, send_outcome, wanted_by, is_same}
-use Rattle.mc_code.proofs.LookUps.{some_is}
-use Rattle.mc_code.proofs.RunLemmas.{run_path}
-use Rattle.mc_code.proofs.Stopping.{stop_once, one_stop, StopsAt}
+use Rattle.mc_code.proofs.{LookUps.some_is, RunLemmas.run_path, Stopping.stop_once, Stopping.one_stop, Stopping.StopsAt}
 
 pub leaves_once : LeavesOnce
 leaves_once c before variables others (st, comes, is) (st', comes', is') =

@@ -1,25 +1,17 @@
 -- What the code of a step does, where the step's labels and its template are there.
 use Rattle.std.proofs.Common.{◌≡◌, ℕ, Bool, true, false, ◌&&◌, Option, Some, None, List, [], ◌∷◌, slice_get, refl, ap, ◌∙◌}
 use Rattle.mc_protocol.specs.Legal.{class_of, is_legal, suits, is_fit_for}
-use Rattle.mc_protocol.specs.declared.request.Verb.{Verb}
+use Rattle.mc_protocol.specs.{declared.request.Verb.Verb, declared.reply.Class.Class, declared.reply.Reply.Reply}
 use Rattle.mc_protocol.specs.declared.request.Verb.TheVariants as verb
-use Rattle.mc_protocol.specs.declared.reply.Class.{Class}
 use Rattle.mc_protocol.specs.declared.reply.Class.TheVariants as class
-use Rattle.mc_protocol.specs.declared.reply.Reply.{Reply}
 use Rattle.mc_protocol.specs.declared.reply.Reply.TheVariants as reply
-use Rattle.mc_script.specs.declared.section.Label.{Label}
-use Rattle.mc_script.specs.declared.step.Step.{Step}
-use Rattle.mc_script.specs.declared.step.Step.TheVariants as step
 use Rattle.mc_script.specs.declared.step.Template.{Template}
-use Rattle.mc_script.specs.WellFormed.{shows_numbers}
-use Rattle.mc_script.specs.WellFormed.{is_number_class}
-use Rattle.mc_code.specs.declared.instr.Instr.{Instr}
-use Rattle.mc_code.specs.declared.instr.Instr.TheVariants as instr
+use Rattle.mc_script.specs.{declared.section.Label.Label, declared.step.Step.Step, WellFormed.shows_numbers, WellFormed.is_number_class}
+use Rattle.mc_script.specs.declared.step.Step.TheVariants as step
 use Rattle.mc_code.specs.Layout.{request_of, code_place, after_label, label_place, entry_for, entry, entries}
-use Rattle.mc_code.specs.Paths.{entry_of}
-use Rattle.mc_code.specs.Runs.{met_by_send, met_at}
 use Rattle.mc_code.specs.ScriptRuns.{jump_on, place_of_label, place_of, met_at_step}
-use Rattle.mc_code.specs.States.{State, is_number, shown_of}
+use Rattle.mc_code.specs.{declared.instr.Instr.Instr, Paths.entry_of, Runs.met_by_send, Runs.met_at, States.State, States.is_number, States.shown_of}
+use Rattle.mc_code.specs.declared.instr.Instr.TheVariants as instr
 use Rattle.mc_code.proofs.LookUps.{some_is, number_at, code_of_all, first_of_step, after_steps}
 
 abbrev pub HasLabel : List Label → ℕ → Type 0

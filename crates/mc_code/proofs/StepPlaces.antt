@@ -3,14 +3,10 @@ use Rattle.std.proofs.Common.{◌≡◌, inl, inr, ℕ, zero, suc, ◌+◌, ◌-
 use Rattle.std.proofs.Common.{sym, ap, ◌∙◌, arith, length-append}
 use Rattle.std.specs.Option.{MatchOption}
 use Rattle.mc_protocol.specs.declared.actor.Actor.{Actor}
-use Rattle.mc_script.specs.Script.{Script, section_of}
-use Rattle.mc_script.specs.declared.step.Step.{Step}
-use Rattle.mc_code.specs.ScriptRuns.{clearing_steps, front_of, all_steps}
+use Rattle.mc_script.specs.{Script.Script, Script.section_of, declared.step.Step.Step}
 use Rattle.mc_code.specs.Layout.{size_of, size_of_all, code_place, IsWithin, IsOfStep, IsOfNoStep}
-use Rattle.mc_code.specs.Assembling.{cleared_keys}
-use Rattle.mc_code.proofs.Fronts.{front-is, all-steps, clearing-length, all_size}
-use Rattle.mc_code.proofs.Laid.{place-after}
-use Rattle.mc_code.proofs.LookUps.{next_place}
+use Rattle.mc_code.specs.{ScriptRuns.clearing_steps, ScriptRuns.front_of, ScriptRuns.all_steps, Assembling.cleared_keys}
+use Rattle.mc_code.proofs.{Fronts.front-is, Fronts.all-steps, Fronts.clearing-length, Fronts.all_size, Laid.place-after, LookUps.next_place}
 
 front-length : (s : Script) (actor : Actor) → length (front_of s actor) ≡ length (cleared_keys s actor)
 front-length s actor = ap length (front-is s actor) ∙ clearing-length 0 (cleared_keys s actor)

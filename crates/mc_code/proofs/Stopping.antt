@@ -1,16 +1,11 @@
 -- Two runs by the same exchanges that stop are at one place, in one state.
 use Rattle.std.proofs.Common.{◌≡◌, ℕ, Bool, true, false, Some, None, List, [], ◌∷◌, slice_get, refl, ap, sym, subst, ◌∙◌, if◌then◌else◌}
-use Rattle.mc_protocol.specs.Legal.{class_of, is_fit_for}
-use Rattle.mc_protocol.specs.declared.reply.Class.{Class}
-use Rattle.mc_protocol.specs.declared.reply.Reply.{Reply}
+use Rattle.mc_protocol.specs.{Legal.class_of, Legal.is_fit_for, declared.reply.Class.Class, declared.reply.Reply.Reply}
 use Rattle.mc_script.specs.declared.step.Template.{Template}
-use Rattle.mc_code.specs.declared.instr.Instr.{Instr}
-use Rattle.mc_code.specs.declared.instr.Instr.TheVariants as instr
-use Rattle.mc_code.specs.Code.{instructions_in}
-use Rattle.mc_code.specs.Paths.{Slides, Sends}
 use Rattle.mc_code.specs.Runs.{Exchange, after_slide, IsRun, rests, slides, sends, met_at}
-use Rattle.mc_code.specs.RunLaws.{stops, StopsOnce}
 use Rattle.mc_code.specs.States.{State, after_reply, Outcome, nothing_to_bind, is_number}
+use Rattle.mc_code.specs.{declared.instr.Instr.Instr, Code.instructions_in, Paths.Slides, Paths.Sends, RunLaws.stops, RunLaws.StopsOnce}
+use Rattle.mc_code.specs.declared.instr.Instr.TheVariants as instr
 use Rattle.mc_protocol.proofs.FirstItems.{head_is, rest_is}
 use Rattle.mc_code.proofs.LookUps.{some_is}
 

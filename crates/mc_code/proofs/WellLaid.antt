@@ -1,21 +1,13 @@
 -- The steps of a script are laid out with their labels and templates there.
 use Rattle.std.proofs.Common.{◌≡◌, ℕ, ◌+◌, ◌==◌, zero, suc, Bool, true, false, ◌||◌, Option, Some, None, List, [], ◌∷◌, ◌++◌}
 use Rattle.std.proofs.Common.{map, option_map, length, slice_get, refl, ap, sym, subst, ◌∙◌, if◌then◌else◌, arith}
-use Rattle.std.proofs.lemmas.List.{length-append}
-use Rattle.std.proofs.lemmas.Option.{slice_get-map}
-use Rattle.mc_protocol.specs.declared.actor.Actor.{Actor}
+use Rattle.std.proofs.{lemmas.List.length-append, lemmas.Option.slice_get-map}
+use Rattle.mc_protocol.specs.{declared.actor.Actor.Actor, declared.request.Verb.Verb, declared.reply.Class.Class, Lines.Word, Words.class_index}
 use Rattle.mc_protocol.specs.declared.actor.Actor.TheVariants as actor
-use Rattle.mc_protocol.specs.declared.request.Verb.{Verb}
-use Rattle.mc_protocol.specs.declared.reply.Class.{Class}
 use Rattle.mc_protocol.specs.declared.reply.Class.TheVariants as class
-use Rattle.mc_protocol.specs.Lines.{Word}
-use Rattle.mc_protocol.specs.Words.{class_index}
-use Rattle.mc_script.specs.declared.section.Label.{Label}
-use Rattle.mc_script.specs.declared.step.Step.{Step}
-use Rattle.mc_script.specs.declared.step.Step.TheVariants as step
-use Rattle.mc_script.specs.declared.step.Template.{Template}
-use Rattle.mc_script.specs.Script.{Names, Script}
 use Rattle.mc_script.specs.WellFormed.{AreJumps, is_number_class, jumps_on_number, MayBind, IsStep, AreSteps, IsScript}
+use Rattle.mc_script.specs.{declared.section.Label.Label, declared.step.Step.Step, declared.step.Template.Template, Script.Names, Script.Script}
+use Rattle.mc_script.specs.declared.step.Step.TheVariants as step
 use Rattle.mc_code.specs.Layout.{requests_of, templates_of, first_template}
 use Rattle.mc_code.specs.ScriptRuns.{clearing_steps, front_of, all_steps, shift_label, all_labels, jump_on}
 use Rattle.mc_code.proofs.LookUps.{some_is, get_in_front, get_after, requests_before, template_found}

@@ -3,10 +3,7 @@ use Rattle.std.specs.Prelude.{◌≡◌, ◌↔◌, List, length}
 use Rattle.mc_protocol.specs.declared.actor.Actor.{Actor}
 use Rattle.mc_script.specs.Script as script
 use Rattle.mc_code.specs.Code as code
-use Rattle.mc_code.specs.Runs.{Exchange}
-use Rattle.mc_code.specs.ScriptRuns.{ScriptComesTo}
-use Rattle.mc_code.specs.Standing.{ComesTo}
-use Rattle.mc_code.specs.States.{Tagged, State, Outcome}
+use Rattle.mc_code.specs.{Runs.Exchange, ScriptRuns.ScriptComesTo, Standing.ComesTo, States.Tagged, States.State, States.Outcome}
 
 -- the keys, how many flags and variables there are, and the budgets are the script's; and with any variables at its start,
 -- and after any exchanges, a section comes to the same: the same request with the same marks and number, the same fault, or

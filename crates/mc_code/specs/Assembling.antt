@@ -1,25 +1,15 @@
 -- What the assembler's functions make from the places of the steps and of the labels. No public contract cites these:
 -- specs/Layout.antt says what the code of a script is, and the proofs join the two.
 use Rattle.std.specs.Prelude.{ℕ, ◌+◌, Option, Some, None, List, [], ◌∷◌, ◌++◌, map, length, slice_index_or, if◌then◌else◌}
-use Rattle.mc_protocol.specs.Legal.{is_legal}
-use Rattle.mc_protocol.specs.declared.actor.Actor.{Actor}
-use Rattle.mc_protocol.specs.declared.actor.Actor.TheVariants as actor
-use Rattle.mc_protocol.specs.declared.reply.Class.{Class}
 use Rattle.mc_protocol.specs.declared.request.Verb.{Verb}
+use Rattle.mc_protocol.specs.{Legal.is_legal, declared.actor.Actor.Actor, declared.reply.Class.Class, Lines.Word, Words.all_classes}
+use Rattle.mc_protocol.specs.declared.actor.Actor.TheVariants as actor
 use Rattle.mc_protocol.specs.declared.request.Verb.TheVariants as verb
-use Rattle.mc_protocol.specs.Lines.{Word}
-use Rattle.mc_protocol.specs.Words.{all_classes}
-use Rattle.mc_script.specs.declared.section.Label.{Label}
-use Rattle.mc_script.specs.declared.step.Step.{Step}
+use Rattle.mc_script.specs.{declared.section.Label.Label, declared.step.Step.Step, Script.Script, WellFormed.is_number_class}
 use Rattle.mc_script.specs.declared.step.Step.TheVariants as step
-use Rattle.mc_script.specs.Script.{Script}
-use Rattle.mc_script.specs.WellFormed.{is_number_class}
-use Rattle.mc_code.specs.declared.emit.Onward.{Onward}
-use Rattle.mc_code.specs.declared.instr.Instr.{Instr}
+use Rattle.mc_code.specs.{declared.emit.Onward.Onward, declared.instr.Instr.Instr, declared.limits.TheConstants.NO_ENTRY, Layout.request_of}
+use Rattle.mc_code.specs.{Layout.size_of, Layout.bind_code, ScriptRuns.jump_on}
 use Rattle.mc_code.specs.declared.instr.Instr.TheVariants as instr
-use Rattle.mc_code.specs.declared.limits.TheConstants.{NO_ENTRY}
-use Rattle.mc_code.specs.Layout.{request_of, size_of, bind_code}
-use Rattle.mc_code.specs.ScriptRuns.{jump_on}
 
 -- the keys that a section clears
 abbrev pub cleared_keys : Script → Actor → List Word

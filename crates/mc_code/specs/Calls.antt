@@ -1,18 +1,12 @@
 -- The calls that a section makes, and the paths that lead to them.
 use Rattle.std.specs.Prelude.{◌≡◌, ℕ, true, Some, List, [], ◌∷◌, ◌++◌, map, slice_get, slice_index_or}
-use Rattle.mc_protocol.specs.declared.actor.Actor.{Actor}
-use Rattle.mc_protocol.specs.declared.reply.Reply.{Reply}
+use Rattle.mc_protocol.specs.{declared.actor.Actor.Actor, declared.reply.Reply.Reply, Legal.is_fit_for}
 use Rattle.mc_protocol.specs.declared.request.Verb.TheVariants as verb
-use Rattle.mc_protocol.specs.Legal.{is_fit_for}
 use Rattle.mc_script.specs.declared.step.Argument.TheVariants as argument
 use Rattle.mc_script.specs.declared.step.Template.{Template}
-use Rattle.mc_code.specs.declared.instr.Call.{Call}
+use Rattle.mc_code.specs.{declared.instr.Call.Call, Code.Code, Code.instructions_in, Paths.Edge, Paths.IsPath, Runs.Exchange}
+use Rattle.mc_code.specs.{Standing.StandsAt, Standing.met_in, States.Tagged, States.State, States.call}
 use Rattle.mc_code.specs.declared.instr.Instr.TheVariants as instr
-use Rattle.mc_code.specs.Code.{Code, instructions_in}
-use Rattle.mc_code.specs.Paths.{Edge, IsPath}
-use Rattle.mc_code.specs.Runs.{Exchange}
-use Rattle.mc_code.specs.Standing.{StandsAt, met_in}
-use Rattle.mc_code.specs.States.{Tagged, State, call}
 
 -- begun with these variables, the section is about to make this call after these exchanges: the call's template is the one
 -- with the index that the send names, since two templates may be equal

@@ -1,19 +1,14 @@
 -- What code is: keys, how many flags and variables there are, templates, and three sections of instructions.
 use Rattle.std.specs.Prelude.{◌≡◌, ℕ, ◌<◌, ◌≤◌, ◌==◌, true, not, List, length, max}
 use Rattle.std.specs.List.{All}
-use Rattle.mc_protocol.specs.declared.actor.Actor.{Actor}
 use Rattle.mc_protocol.specs.declared.limits.TheConstants.{KEYS_LIMIT, KEY_BYTES_LIMIT, REQUESTS_LIMIT, REQUEST_BYTES_LIMIT}
-use Rattle.mc_protocol.specs.declared.sections.Sections.{Sections}
+use Rattle.mc_protocol.specs.{declared.actor.Actor.Actor, declared.sections.Sections.Sections, Lines.Word}
 use Rattle.mc_protocol.specs.Sections as sections
-use Rattle.mc_protocol.specs.Lines.{Word}
 use Rattle.mc_script.specs.declared.limits.TheConstants.{FLAGS_LIMIT, VARIABLES_LIMIT}
-use Rattle.mc_script.specs.declared.section.Budget.{Budget}
-use Rattle.mc_script.specs.declared.step.Template.{Template}
-use Rattle.mc_script.specs.Script.{may_be_declared}
-use Rattle.mc_script.specs.Templates.{IsTemplate}
+use Rattle.mc_script.specs.{declared.section.Budget.Budget, declared.step.Template.Template, Script.may_be_declared, Templates.IsTemplate}
 use Rattle.mc_code.specs.declared.instr.Instr.{Instr}
-use Rattle.mc_code.specs.declared.instr.Instr.TheVariants as instr
 use Rattle.mc_code.specs.declared.limits.TheConstants.{TEMPLATES_LIMIT, INSTRUCTIONS_LIMIT, CLASS_COUNT}
+use Rattle.mc_code.specs.declared.instr.Instr.TheVariants as instr
 
 -- what a section may send at most, and its instructions
 pub record Section : Type 0 where

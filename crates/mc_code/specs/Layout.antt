@@ -1,24 +1,18 @@
 -- How the code of a script is laid out: templates, places and instructions.
 use Rattle.std.specs.Prelude.{◌⊎◌, ℕ, ◌+◌, ◌<◌, ◌≤◌, Option, Some, None, List, [], ◌∷◌, ◌++◌, map, length, take, slice_get, if◌then◌else◌}
 use Rattle.std.specs.List.{flat_map}
-use Rattle.mc_protocol.specs.Legal.{is_legal}
-use Rattle.mc_protocol.specs.declared.actor.Actor.{Actor}
+use Rattle.mc_protocol.specs.{Legal.is_legal, declared.actor.Actor.Actor, declared.reply.Class.Class, Words.all_classes}
 use Rattle.mc_protocol.specs.declared.actor.Actor.TheVariants as actor
-use Rattle.mc_protocol.specs.declared.reply.Class.{Class}
-use Rattle.mc_protocol.specs.Words.{all_classes}
-use Rattle.mc_script.specs.declared.section.Label.{Label}
-use Rattle.mc_script.specs.declared.step.Step.{Step}
-use Rattle.mc_script.specs.declared.step.Step.TheVariants as step
 use Rattle.mc_script.specs.declared.step.Template.{Template}
+use Rattle.mc_script.specs.{declared.section.Label.Label, declared.step.Step.Step, WellFormed.is_number_class}
+use Rattle.mc_script.specs.declared.step.Step.TheVariants as step
 use Rattle.mc_script.specs.Script as script
-use Rattle.mc_script.specs.WellFormed.{is_number_class}
-use Rattle.mc_code.specs.declared.fault.AsmFault.{AsmFault}
-use Rattle.mc_code.specs.declared.fault.AsmFault.TheVariants as fault
-use Rattle.mc_code.specs.declared.instr.Instr.{Instr}
-use Rattle.mc_code.specs.declared.instr.Instr.TheVariants as instr
 use Rattle.mc_code.specs.declared.limits.TheConstants.{TEMPLATES_LIMIT, INSTRUCTIONS_LIMIT, NO_ENTRY}
-use Rattle.mc_code.specs.Code as code
 use Rattle.mc_code.specs.ScriptRuns.{front_of, all_steps, all_labels, jump_on}
+use Rattle.mc_code.specs.{declared.fault.AsmFault.AsmFault, declared.instr.Instr.Instr}
+use Rattle.mc_code.specs.declared.fault.AsmFault.TheVariants as fault
+use Rattle.mc_code.specs.declared.instr.Instr.TheVariants as instr
+use Rattle.mc_code.specs.Code as code
 
 -- ---- templates: one for each request, P's first, then A's, then B's
 

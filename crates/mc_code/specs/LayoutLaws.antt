@@ -1,16 +1,9 @@
 -- Laws of layout, whatever the script is.
 use Rattle.std.specs.Prelude.{◌≡◌, ℕ, false, Some, List, slice_get}
-use Rattle.mc_protocol.specs.Legal.{is_legal}
-use Rattle.mc_protocol.specs.declared.actor.Actor.{Actor}
-use Rattle.mc_protocol.specs.declared.reply.Class.{Class}
-use Rattle.mc_script.specs.Script.{Script}
-use Rattle.mc_script.specs.WellFormed.{IsScript}
-use Rattle.mc_script.specs.declared.step.Template.{Template}
+use Rattle.mc_protocol.specs.{Legal.is_legal, declared.actor.Actor.Actor, declared.reply.Class.Class}
+use Rattle.mc_script.specs.{Script.Script, WellFormed.IsScript, declared.step.Template.Template}
 use Rattle.mc_code.specs.declared.instr.Instr.TheVariants as instr
-use Rattle.mc_code.specs.declared.limits.TheConstants.{NO_ENTRY}
-use Rattle.mc_code.specs.Code.{instructions_in}
-use Rattle.mc_code.specs.Layout.{code_of}
-use Rattle.mc_code.specs.Paths.{LeadsForwards, entry_of}
+use Rattle.mc_code.specs.{declared.limits.TheConstants.NO_ENTRY, Code.instructions_in, Layout.code_of, Paths.LeadsForwards, Paths.entry_of}
 
 -- each section of laid-out code leads forwards
 abbrev pub LayoutsLeadForwards : Type 0

@@ -5,13 +5,9 @@ use Rattle.mc_protocol.specs.declared.request.Verb.TheVariants as verb
 use Rattle.mc_protocol.specs.declared.reply.Reply.TheVariants as reply
 use Rattle.mc_protocol.specs.Legal.{is_fit_for}
 use Rattle.mc_script.specs.declared.step.Template.{Template}
-use Rattle.mc_code.specs.declared.instr.Instr.{Instr}
-use Rattle.mc_code.specs.declared.kind.Kind.{Kind}
+use Rattle.mc_code.specs.{declared.instr.Instr.Instr, declared.kind.Kind.Kind, Paths.LeadsForwards, RunLaws.edges_of, Runs.Exchange}
+use Rattle.mc_code.specs.{Runs.IsRun, States.Tagged, States.State}
 use Rattle.mc_code.specs.declared.kind.Kind.TheVariants as kind
-use Rattle.mc_code.specs.Paths.{LeadsForwards}
-use Rattle.mc_code.specs.RunLaws.{edges_of}
-use Rattle.mc_code.specs.Runs.{Exchange, IsRun}
-use Rattle.mc_code.specs.States.{Tagged, State}
 
 -- ---- cas uniques
 

@@ -1,10 +1,8 @@
 -- The requests that code makes.
 use Rattle.std.specs.Prelude.{◌≡◌, ℕ, Some, slice_get}
-use Rattle.mc_protocol.specs.declared.request.Request.{Request}
-use Rattle.mc_protocol.specs.Lines.{Word}
+use Rattle.mc_protocol.specs.{declared.request.Request.Request, Lines.Word}
 use Rattle.mc_script.specs.declared.step.Template.{Template}
-use Rattle.mc_code.specs.Code.{Code}
-use Rattle.mc_code.specs.declared.instr.Call.{Call}
+use Rattle.mc_code.specs.{Code.Code, declared.instr.Call.Call}
 
 -- the request of a template with this key and this number
 abbrev pub request_with : Template → Word → ℕ → Request

@@ -1,18 +1,10 @@
 -- Laws of paths, runs and agreement, whatever the script and the code are.
 use Rattle.std.specs.Prelude.{◌≡◌, ◌↔◌, ℕ, Bool, true, false, List, ◌++◌, map}
-use Rattle.mc_protocol.specs.Legal.{class_of}
-use Rattle.mc_protocol.specs.declared.actor.Actor.{Actor}
-use Rattle.mc_script.specs.declared.step.Template.{Template}
-use Rattle.mc_script.specs.Script.{Script}
-use Rattle.mc_script.specs.WellFormed.{IsScript}
-use Rattle.mc_code.specs.declared.instr.Instr.{Instr}
-use Rattle.mc_code.specs.Agreement.{Agrees}
-use Rattle.mc_code.specs.Code.{Code, instructions_in}
-use Rattle.mc_code.specs.Layout.{code_of}
-use Rattle.mc_code.specs.Paths.{Edge, IsPath, IsComplete}
-use Rattle.mc_code.specs.Runs.{Exchange, IsRun}
-use Rattle.mc_code.specs.Standing.{ComesTo}
+use Rattle.mc_protocol.specs.{Legal.class_of, declared.actor.Actor.Actor}
+use Rattle.mc_script.specs.{declared.step.Template.Template, Script.Script, WellFormed.IsScript}
 use Rattle.mc_code.specs.States.{Tagged, State, Outcome, nothing_to_bind, ended}
+use Rattle.mc_code.specs.{declared.instr.Instr.Instr, Agreement.Agrees, Code.Code, Code.instructions_in, Layout.code_of, Paths.Edge}
+use Rattle.mc_code.specs.{Paths.IsPath, Paths.IsComplete, Runs.Exchange, Runs.IsRun, Standing.ComesTo}
 
 -- the edge along which an exchange goes
 abbrev pub edge_of : Exchange → Edge

@@ -1,12 +1,10 @@
 -- Runs of code: a section's instructions, from reply to reply, with what its variables hold.
 use Rattle.std.specs.Prelude.{◌≡◌, ℕ, true, Option, Some, None, List, [], ◌∷◌, slice_get}
-use Rattle.mc_protocol.specs.Legal.{class_of, is_fit_for}
-use Rattle.mc_protocol.specs.declared.reply.Reply.{Reply}
+use Rattle.mc_protocol.specs.{Legal.class_of, Legal.is_fit_for, declared.reply.Reply.Reply}
 use Rattle.mc_script.specs.declared.step.Template.{Template}
-use Rattle.mc_code.specs.declared.instr.Instr.{Instr}
-use Rattle.mc_code.specs.declared.instr.Instr.TheVariants as instr
-use Rattle.mc_code.specs.Paths.{Slides, Sends}
 use Rattle.mc_code.specs.States.{State, after_reply, after_bind, Outcome, outside, ended, send_outcome, bind_outcome}
+use Rattle.mc_code.specs.{declared.instr.Instr.Instr, Paths.Slides, Paths.Sends}
+use Rattle.mc_code.specs.declared.instr.Instr.TheVariants as instr
 
 -- a request, with its reply
 abbrev pub Exchange : Type 0

@@ -1,20 +1,13 @@
 -- Runs of a script: the steps of a section, from reply to reply, after the requests that clear the keys.
 use Rattle.std.specs.Prelude.{◌≡◌, ℕ, ◌+◌, ◌==◌, true, Option, Some, None, List, [], ◌∷◌, ◌++◌, map, length, slice_get, if◌then◌else◌}
-use Rattle.mc_protocol.specs.Legal.{class_of, is_fit_for}
-use Rattle.mc_protocol.specs.declared.actor.Actor.{Actor}
+use Rattle.mc_protocol.specs.{Legal.class_of, Legal.is_fit_for, declared.actor.Actor.Actor, declared.reply.Class.Class}
+use Rattle.mc_protocol.specs.{declared.reply.Reply.Reply, Lines.Word, Words.class_index}
 use Rattle.mc_protocol.specs.declared.actor.Actor.TheVariants as actor
 use Rattle.mc_protocol.specs.declared.request.Verb.TheVariants as verb
-use Rattle.mc_protocol.specs.declared.reply.Class.{Class}
-use Rattle.mc_protocol.specs.declared.reply.Reply.{Reply}
-use Rattle.mc_protocol.specs.Lines.{Word}
-use Rattle.mc_protocol.specs.Words.{class_index}
-use Rattle.mc_script.specs.declared.section.Label.{Label}
+use Rattle.mc_script.specs.{declared.section.Label.Label, declared.step.Step.Step, declared.step.Template.Template, Script.Script}
+use Rattle.mc_script.specs.{Script.section_of, WellFormed.is_number_class}
 use Rattle.mc_script.specs.declared.step.Argument.TheVariants as argument
-use Rattle.mc_script.specs.declared.step.Step.{Step}
 use Rattle.mc_script.specs.declared.step.Step.TheVariants as step
-use Rattle.mc_script.specs.declared.step.Template.{Template}
-use Rattle.mc_script.specs.Script.{Script, section_of}
-use Rattle.mc_script.specs.WellFormed.{is_number_class}
 use Rattle.mc_code.specs.Runs.{Exchange}
 use Rattle.mc_code.specs.States.{Tagged, State, initial_state, after_reply, after_bind, Outcome, ended, send_outcome, bind_outcome}
 

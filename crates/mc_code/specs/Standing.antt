@@ -2,9 +2,8 @@
 use Rattle.std.specs.Prelude.{◌≡◌, ℕ, Bool, true, false, Option, Some, List, ◌++◌, slice_get, replicate}
 use Rattle.mc_protocol.specs.declared.actor.Actor.{Actor}
 use Rattle.mc_protocol.specs.declared.actor.Actor.TheVariants as actor
-use Rattle.mc_code.specs.Code.{Code, instructions_in}
-use Rattle.mc_code.specs.Runs.{Exchange, IsRun, met_at}
 use Rattle.mc_code.specs.States.{Tagged, nothing, State, initial_state, Outcome, call, unbound, wrong_kind, nothing_to_bind, outside, ended}
+use Rattle.mc_code.specs.{Code.Code, Code.instructions_in, Runs.Exchange, Runs.IsRun, Runs.met_at}
 
 -- ---- where a section stands
 

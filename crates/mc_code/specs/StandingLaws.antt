@@ -1,15 +1,10 @@
 -- Laws of where a section stands, whatever the code is.
 use Rattle.std.specs.Prelude.{◌≡◌, ℕ, Some, List, [], ◌∷◌, ◌++◌, map, slice_get}
-use Rattle.mc_protocol.specs.declared.actor.Actor.{Actor}
-use Rattle.mc_protocol.specs.declared.reply.Reply.{Reply}
+use Rattle.mc_protocol.specs.{declared.actor.Actor.Actor, declared.reply.Reply.Reply}
 use Rattle.mc_script.specs.declared.step.Template.{Template}
-use Rattle.mc_code.specs.declared.instr.Call.{Call}
 use Rattle.mc_code.specs.Calls.{IsCalling, MakesAll, exchange_of, calls_of, Opens}
-use Rattle.mc_code.specs.Code.{Code}
-use Rattle.mc_code.specs.RunLaws.{edges_of}
-use Rattle.mc_code.specs.Runs.{Exchange}
 use Rattle.mc_code.specs.Standing.{IsRightAlong, Leaves, StandsAt}
-use Rattle.mc_code.specs.States.{Tagged, State}
+use Rattle.mc_code.specs.{declared.instr.Call.Call, Code.Code, RunLaws.edges_of, Runs.Exchange, States.Tagged, States.State}
 
 -- P leaves one list of variables after the same exchanges
 abbrev pub LeavesOnce : Type 0

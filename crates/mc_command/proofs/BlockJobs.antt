@@ -1,22 +1,16 @@
 -- The jobs of blocks and reports, put together.
 use Rattle.std.proofs.Common.{◌≡◌, ◌∙◌, ◌+◌, ◌<◌, ◌≤◌, ◌++◌, ◌∷◌, [], ℕ, zero, suc, ap, ap₂, arith, length, refl, sym}
 use Rattle.std.proofs.Common.{List, Option, Some, None, append_assoc, map, min, reverse, take}
-use Rattle.std.specs.Prelude.{All, flat_map}
-use Rattle.std.specs.List.{range_with_len}
 use Rattle.std.proofs.lemmas.List.{append-nil, length-append, length-map, length-take, map-append, reverse-append, take-map}
-use Rattle.std.proofs.lemmas.List.Concat.{flat_map-append}
 use Rattle.std.proofs.lemmas.List.Elements.{All-append, All-cons, All-nil, All-take}
-use Rattle.std.proofs.lemmas.List.FromFn.{length-range_with_len}
+use Rattle.std.proofs.{lemmas.List.Concat.flat_map-append, lemmas.List.FromFn.length-range_with_len}
+use Rattle.std.specs.{Prelude.All, Prelude.flat_map, List.range_with_len}
 use Rattle.mc_protocol.specs.Lines.{Word}
 use Rattle.mc_settings.specs.JobKeys.{NameFits}
 use Rattle.mc_campaign.proofs.ShortKeys.{short_keys}
-use Rattle.mc_campaign.specs.Outcomes.{HasShortKeys, IsOutcome}
-use Rattle.mc_campaign.specs.declared.outcome.JobResult.{JobResult}
-use Rattle.mc_command.specs.Blocks.{AreReports, BeginsRightly, MOST_IN_BLOCK, jobs_of, unexplained_of}
-use Rattle.mc_command.specs.CampaignAnswers.{AreResults}
-use Rattle.mc_cli.specs.Args.{GREATEST_JOBS}
-use Rattle.mc_cli.specs.declared.args.Plan.{Plan}
-use Rattle.mc_cli.specs.declared.args.Until.{Until}
+use Rattle.mc_campaign.specs.{Outcomes.HasShortKeys, Outcomes.IsOutcome, declared.outcome.JobResult.JobResult}
+use Rattle.mc_command.specs.{Blocks.AreReports, Blocks.BeginsRightly, Blocks.MOST_IN_BLOCK, Blocks.jobs_of, Blocks.unexplained_of, CampaignAnswers.AreResults}
+use Rattle.mc_cli.specs.{Args.GREATEST_JOBS, declared.args.Plan.Plan, declared.args.Until.Until}
 
 -- ---- results
 

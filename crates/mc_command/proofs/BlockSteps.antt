@@ -4,17 +4,12 @@ use Rattle.std.specs.Prelude.{flat_map}
 use Rattle.mc_protocol.specs.Lines.{Word}
 use Rattle.mc_campaign.specs.declared.outcome.JobResult.{JobResult}
 use Rattle.mc_command.proofs.BlockJobs.{begins_more, jobs_more, jobs_written, no_reports, reports_more, reports_written, results_long}
-use Rattle.mc_command.proofs.BlockTexts.{grows_by_none}
-use Rattle.mc_command.proofs.TallyMore.{ends_by}
+use Rattle.mc_command.proofs.{BlockTexts.grows_by_none, TallyMore.ends_by}
 use Rattle.mc_command.specs.Blocks.{AreReports, BeginsRightly, EndsWith, InBlocks, MOST_IN_BLOCK, jobs_of}
-use Rattle.mc_command.specs.CampaignAnswers.{AreResults, IsEnd, ShowsJobs, text_of_report}
-use Rattle.mc_cli.specs.Args.{GREATEST_JOBS}
-use Rattle.mc_answers.specs.Streams.{Grows}
-use Rattle.mc_command.specs.Tallies.{Gathers, HasGathered, HasReported, IsOver, IsTally, Stands}
-use Rattle.mc_cli.specs.declared.args.Plan.{Plan}
-use Rattle.mc_command.specs.declared.gathered.Gathered.{Gathered}
-use Rattle.mc_answers.specs.declared.status.Status.{Status}
-use Rattle.mc_cli.specs.declared.args.Until.{Until}
+use Rattle.mc_command.specs.{CampaignAnswers.AreResults, CampaignAnswers.IsEnd, CampaignAnswers.ShowsJobs, CampaignAnswers.text_of_report, Tallies.Gathers}
+use Rattle.mc_command.specs.{Tallies.HasGathered, Tallies.HasReported, Tallies.IsOver, Tallies.IsTally, Tallies.Stands, declared.gathered.Gathered.Gathered}
+use Rattle.mc_cli.specs.{Args.GREATEST_JOBS, declared.args.Plan.Plan, declared.args.Until.Until}
+use Rattle.mc_answers.specs.{Streams.Grows, declared.status.Status.Status}
 
 -- by the jobs of the report that isn't written yet
 stands_by : {S : Type 0} (plan : Plan) (until : Until) (name : Option Word) (whole : List (List (JobResult S))) (gathered : Gathered S)

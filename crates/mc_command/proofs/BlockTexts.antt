@@ -1,23 +1,16 @@
 -- What is written of a campaign in blocks, one report after the other.
 use Rattle.std.proofs.Common.{◌≡◌, ◌⊎◌, ◌∙◌, ◌++◌, ◌∷◌, [], ℕ, ap, inl, inr, refl, sym, Bool, List, Option, Some, None, append_assoc}
+use Rattle.std.proofs.{lemmas.List.append-nil, lemmas.List.Concat.flat_map-append}
 use Rattle.std.specs.Prelude.{flat_map}
-use Rattle.std.proofs.lemmas.List.{append-nil}
-use Rattle.std.proofs.lemmas.List.Concat.{flat_map-append}
 use Rattle.mc_protocol.specs.Lines.{Word}
 use Rattle.mc_campaign.specs.declared.outcome.JobResult.{JobResult}
 use Rattle.mc_command.proofs.BlockJobs.{no_reports}
 use Rattle.mc_command.specs.Blocks.{BreaksOff, Campaigns, CampaignsUntil, InBlocks}
-use Rattle.mc_command.specs.CampaignAnswers.{not_run_text, text_of_report}
-use Rattle.mc_command.specs.Command.{WritesReport}
-use Rattle.mc_answers.specs.Streams.{Grows}
-use Rattle.mc_command.specs.Tallies.{HasReported, HasWritten}
-use Rattle.mc_answers.specs.Writing.{out_of_memory_text}
-use Rattle.mc_answers.specs.declared.input.InputFault.{InputFault}
+use Rattle.mc_command.specs.{CampaignAnswers.not_run_text, CampaignAnswers.text_of_report, Command.WritesReport, Tallies.HasReported, Tallies.HasWritten}
+use Rattle.mc_answers.specs.{Streams.Grows, Writing.out_of_memory_text, declared.input.InputFault.InputFault, declared.status.Status.Status}
 use Rattle.mc_answers.specs.declared.input.InputFault.TheVariants as fault
-use Rattle.mc_cli.specs.declared.args.Plan.{Plan}
-use Rattle.mc_answers.specs.declared.status.Status.{Status}
+use Rattle.mc_cli.specs.{declared.args.Plan.Plan, declared.args.Until.Until}
 use Rattle.mc_answers.specs.declared.status.Status.TheVariants as status
-use Rattle.mc_cli.specs.declared.args.Until.{Until}
 
 -- known bytes that grow twice
 pub grows_more : (old between new : Option (List ℕ)) (one other : List ℕ) → Grows old between one → Grows between new other

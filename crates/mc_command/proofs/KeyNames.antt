@@ -2,11 +2,8 @@
 use Rattle.std.proofs.Common.{◌≡◌, ◌⊎◌, ◌∙◌, Bool, true, false, Option, Some, None, IfSome, ap, inl, inr, subst, sym}
 use Rattle.std.proofs.lemmas.Bool.{false≢true}
 use Rattle.mc_code.specs.Code.{Code}
-use Rattle.mc_verify.specs.Checked.{Checked}
-use Rattle.mc_command.specs.Renaming.{code_of}
-use Rattle.mc_command.specs.RepeatAnswers.{IsRightUnder, IsUnderSome}
-use Rattle.mc_command.specs.RunAnswers.{IsRightFor}
-use Rattle.mc_command.specs.declared.run.Played.{Played}
+use Rattle.mc_sound.specs.Checked.{Checked}
+use Rattle.mc_command.specs.{Renaming.code_of, RepeatAnswers.IsRightUnder, RepeatAnswers.IsUnderSome, RunAnswers.IsRightFor, declared.run.Played.Played}
 
 pub none_under : (written : Code) (under : Option Checked) → under ≡ None → IfSome under (λ (u : Checked). IsUnderSome written u.code)
 none_under written under is = subst (λ (o : Option Checked). IfSome o (λ (u : Checked). IsUnderSome written u.code)) (sym is) tt

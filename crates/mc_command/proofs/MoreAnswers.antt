@@ -1,18 +1,13 @@
 -- One request more, and one run more, that is counted.
 use Rattle.std.proofs.Common.{◌≡◌, ◌∙◌, ℕ, ◌+◌, ◌==◌, Bool, true, false, ◌&&◌, cond, Option, List, [], ◌∷◌, ◌++◌}
 use Rattle.std.proofs.Common.{length, ap, append_assoc, append-nil, arith, refl, sym}
+use Rattle.std.proofs.{lemmas.Bool.eqb-true, lemmas.List.length-append, lemmas.List.Concat.flat_map-append, lemmas.List.Sums.sum_by_push}
 use Rattle.std.specs.List.{count_by, flat_map}
-use Rattle.std.proofs.lemmas.Bool.{eqb-true}
-use Rattle.std.proofs.lemmas.List.{length-append}
-use Rattle.std.proofs.lemmas.List.Concat.{flat_map-append}
-use Rattle.std.proofs.lemmas.List.Sums.{sum_by_push}
 use Rattle.mc_image.specs.Image.{verb_index}
 use Rattle.mc_model.specs.declared.sent.Sent.{Sent}
-use Rattle.mc_protocol.specs.declared.reply.Class.{Class}
-use Rattle.mc_protocol.specs.declared.request.Verb.{Verb}
+use Rattle.mc_protocol.specs.{declared.reply.Class.Class, declared.request.Verb.Verb}
 use Rattle.mc_command.specs.Replies.{answer_of, answers_in, capped, is_answered, is_same_answer}
-use Rattle.mc_command.specs.Statistics.{Recorded, requests_of}
-use Rattle.mc_command.specs.declared.replies.Answers.{Answers}
+use Rattle.mc_command.specs.{Statistics.Recorded, Statistics.requests_of, declared.replies.Answers.Answers}
 
 capped_more : (n k : ℕ) → capped (capped n + k) ≡ capped (n + k)
 capped_more n k = omega arith

@@ -1,10 +1,8 @@
 -- One note more: what is outstanding after it, and whether requests of both branches were.
 use Rattle.std.proofs.Common.{◌≡◌, ◌∙◌, ◌<◌, ℕ, ◌+◌, Bool, true, false, ◌||◌, ◌&&◌, cond, Option, Some, None, List, [], ◌∷◌, ◌++◌}
 use Rattle.std.proofs.Common.{length, take, map, ap, refl, sym, append-nil, get_or}
+use Rattle.std.proofs.{lemmas.List.map-append, lemmas.List.take_more, lemmas.List.Concat.flat_map-append, lemmas.List.Folds.list_any-append}
 use Rattle.std.specs.List.{last_or, list_any}
-use Rattle.std.proofs.lemmas.List.{map-append, take_more}
-use Rattle.std.proofs.lemmas.List.Concat.{flat_map-append}
-use Rattle.std.proofs.lemmas.List.Folds.{list_any-append}
 use Rattle.mc_protocol.specs.declared.actor.Actor.{Actor}
 use Rattle.mc_protocol.specs.declared.actor.Actor.TheVariants as actor
 use Rattle.mc_model.specs.Notes.{is_same_section}

@@ -1,13 +1,11 @@
 -- One run more: which is handed out.
 use Rattle.std.proofs.Common.{◌≡◌, ◌∙◌, ℕ, Bool, true, false, not, List, [], ◌∷◌, ◌++◌, length, ap, refl, sym, Some}
-use Rattle.std.specs.List.{All}
-use Rattle.std.proofs.lemmas.Bool.{false≢true}
-use Rattle.std.proofs.lemmas.List.{append_assoc, length-append}
 use Rattle.std.proofs.lemmas.List.Elements.{All-cons, All-nil, All-pop, All-push, All-same}
+use Rattle.std.proofs.{lemmas.Bool.false≢true, lemmas.List.append_assoc, lemmas.List.length-append}
+use Rattle.std.specs.List.{All}
 use Rattle.mc_code.specs.Code.{Code}
 use Rattle.mc_command.specs.RepeatAnswers.{AreSettled, HandsOut, IsRightUnder, leaves_request, succeeds}
-use Rattle.mc_command.specs.RunAnswers.{IsRightFor}
-use Rattle.mc_command.specs.declared.run.Played.{Played}
+use Rattle.mc_command.specs.{RunAnswers.IsRightFor, declared.run.Played.Played}
 
 pub one_right : (why : Bool) (code : Code) (run : Played) → IsRightFor why code run → All (IsRightFor why code) (run ∷ [])
 one_right why code run right = All-cons (IsRightFor why code) run [] right (All-nil (IsRightFor why code))

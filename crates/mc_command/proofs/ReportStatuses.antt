@@ -1,8 +1,7 @@
 -- The exit status after a report is one of three.
 use Rattle.std.proofs.Common.{refl, inl, inr, Bool, true, false, List}
 use Rattle.std.specs.Prelude.{if◌then◌else◌}
-use Rattle.mc_campaign.specs.ReportStatus.{are_clean, one_accuses, status_of}
-use Rattle.mc_campaign.specs.declared.outcome.JobResult.{JobResult}
+use Rattle.mc_campaign.specs.{ReportStatus.are_clean, ReportStatus.one_accuses, ReportStatus.status_of, declared.outcome.JobResult.JobResult}
 use Rattle.mc_command.specs.CampaignAnswers.{IsReportStatus}
 
 one_of_three : (accuses : Bool) (clean : Bool) → IsReportStatus (if accuses then 1 else (if clean then 0 else 4))

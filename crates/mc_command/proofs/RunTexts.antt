@@ -3,18 +3,12 @@ use Rattle.std.proofs.Common.{◌≡◌, ◌⊎◌, ◌∙◌, ◌++◌, ℕ, �
 use Rattle.std.proofs.lemmas.Bool.{false≢true}
 use Rattle.mc_code.specs.Code.{Code}
 use Rattle.mc_answers.specs.Answers.{AnswersRightly, INPUT_LIMIT, IsAnswerBy, IsWhole}
-use Rattle.mc_answers.specs.Streams.{TakesAtMost}
-use Rattle.mc_answers.specs.Writing.{WritesRightly, out_of_memory_text}
-use Rattle.mc_answers.specs.declared.status.Status.{Status}
+use Rattle.mc_answers.specs.{Streams.TakesAtMost, Writing.WritesRightly, Writing.out_of_memory_text, declared.status.Status.Status}
 use Rattle.mc_answers.specs.declared.status.Status.TheVariants as status
 use Rattle.mc_cli.specs.declared.args.Repeat.{Repeat}
 use Rattle.mc_command.specs.RepeatAnswers.{AreSettled, Comes, HandsOut, found_text, repeated_text, run_line, succeeds}
-use Rattle.mc_command.specs.RunAnswers.{IsRightFor, text_of}
-use Rattle.mc_command.specs.SoFar.{AreFirst, IsSoFar}
-use Rattle.mc_command.specs.Totals.{totals_line}
-use Rattle.mc_command.specs.declared.repeating.Runs.{Runs}
-use Rattle.mc_command.specs.declared.run.Played.{Played}
-use Rattle.mc_command.specs.declared.totals.Totals.{Totals}
+use Rattle.mc_command.specs.{RunAnswers.IsRightFor, RunAnswers.text_of, SoFar.AreFirst, SoFar.IsSoFar, Totals.totals_line, declared.repeating.Runs.Runs}
+use Rattle.mc_command.specs.{declared.run.Played.Played, declared.totals.Totals.Totals}
 
 goes_by : (enough : Type 0) (keep_going succeeded : Bool) (unsettled : Type 0) → enough ⊎ (succeeded ≡ false)
     → (keep_going ≡ false) ⊎ (succeeded ≡ true) → enough ⊎ (((keep_going ≡ false) × (succeeded ≡ false)) ⊎ unsettled)

@@ -1,14 +1,11 @@
 -- What shows the unexplained ones of some jobs, one job after the other.
 use Rattle.std.proofs.Common.{◌≡◌, ◌++◌, ◌∷◌, ◌-◌, ◌<◌, ◌≤◌, ◌∙◌}
 use Rattle.std.proofs.Common.{arith, refl, ap, sym, length, ℕ, zero, suc, List, [], Bool, All, Option, true, false}
+use Rattle.std.proofs.{lemmas.List.append-nil, lemmas.List.Elements.All-head, lemmas.List.Elements.All-tail, lemmas.List.Elements.All-weaker}
 use Rattle.std.specs.Prelude.{if◌then◌else◌, filter, take}
-use Rattle.std.proofs.lemmas.List.{append-nil}
-use Rattle.std.proofs.lemmas.List.Elements.{All-head, All-tail, All-weaker}
 use Rattle.mc_protocol.specs.Lines.{Word}
-use Rattle.mc_campaign.specs.Outcomes.{IsOutcome}
-use Rattle.mc_campaign.specs.declared.outcome.JobOutcome.{JobOutcome}
+use Rattle.mc_campaign.specs.{Outcomes.IsOutcome, declared.outcome.JobOutcome.JobOutcome, declared.outcome.JobResult.JobResult}
 use Rattle.mc_campaign.specs.declared.outcome.JobOutcome.TheVariants as outcome
-use Rattle.mc_campaign.specs.declared.outcome.JobResult.{JobResult}
 use Rattle.mc_command.specs.CampaignAnswers.{AreShown, HasTrueVerdict, is_unexplained, shown_jobs}
 
 kept : {X : Type 0} (test : X → Bool) (x : X) (xs : List X) → test x ≡ true → filter test (x ∷ xs) ≡ x ∷ filter test xs

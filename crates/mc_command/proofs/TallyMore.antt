@@ -1,23 +1,19 @@
 -- What jobs came to, with those of a block more.
 use Rattle.std.proofs.Common.{◌≡◌, ◌∙◌, ◌+◌, ◌-◌, ◌<◌, ◌≤◌, ◌++◌, ◌∷◌, ◌&&◌, ◌||◌, ◌^◌, [], min, ℕ, zero, suc, ap, ap₂, arith, inl, inr, length}
 use Rattle.std.proofs.Common.{Bool, List, Option, Some, None, append_assoc, cond, false, refl, subst, sym, true}
+use Rattle.std.proofs.lemmas.List.Sums.{count_by-le-length, sum_by-append, sum_by-cons}
+use Rattle.std.proofs.{lemmas.List.length-append, lemmas.List.Folds.find-append, lemmas.List.Folds.list_all-append, lemmas.List.Folds.list_any-append}
 use Rattle.std.specs.Prelude.{option_map, if◌then◌else◌}
 use Rattle.std.specs.Option.{option_or}
-use Rattle.std.proofs.lemmas.List.{length-append}
-use Rattle.std.proofs.lemmas.List.Folds.{find-append, list_all-append, list_any-append}
-use Rattle.std.proofs.lemmas.List.Sums.{count_by-le-length, sum_by-append, sum_by-cons}
 use Rattle.mc_campaign.specs.ReportStatus.{accuses, are_clean, is_clean, one_accuses}
-use Rattle.mc_campaign.specs.ReportStatus as report
 use Rattle.mc_campaign.specs.declared.outcome.JobResult.{JobResult}
+use Rattle.mc_campaign.specs.ReportStatus as report
 use Rattle.mc_command.proofs.Shown.{none_shown, shown_later, shown_no_more, shown_one}
-use Rattle.mc_command.specs.Blocks.{EndsRightly, unexplained_of}
 use Rattle.mc_command.specs.CampaignAnswers.{AreShown, MOST_SHOWN, ShowsAtMost, ShowsJobs, first_unexplained, is_unexplained, shown_jobs}
-use Rattle.mc_answers.specs.Statuses.{joined, status_number}
-use Rattle.mc_command.specs.Tallies.{Gathers, IsOver, IsTally}
 use Rattle.mc_command.specs.declared.gathered.Gathered.{Gathered}
-use Rattle.mc_answers.specs.declared.status.Status.{Status}
+use Rattle.mc_command.specs.{Blocks.EndsRightly, Blocks.unexplained_of, Tallies.Gathers, Tallies.IsOver, Tallies.IsTally, declared.tally.Tally.Tally}
+use Rattle.mc_answers.specs.{Statuses.joined, Statuses.status_number, declared.status.Status.Status}
 use Rattle.mc_answers.specs.declared.status.Status.TheVariants as status
-use Rattle.mc_command.specs.declared.tally.Tally.{Tally}
 use Rattle.mc_cli.specs.declared.args.Until.{Until}
 
 -- ---- the status

@@ -3,8 +3,7 @@ use Rattle.std.proofs.Common.{Bool, ℕ, List, Some, inr}
 use Rattle.mc_protocol.specs.Lines.{Word}
 use Rattle.mc_code.specs.Code.{Code}
 use Rattle.mc_answers.specs.Loading.{Spells}
-use Rattle.mc_command.specs.RunAnswers.{IsUnplayed, IsUnput}
-use Rattle.mc_command.specs.declared.target_code.Unplayed.{Unplayed}
+use Rattle.mc_command.specs.{RunAnswers.IsUnplayed, RunAnswers.IsUnput, declared.target_code.Unplayed.Unplayed}
 use Rattle.mc_command.specs.declared.target_code.Unplayed.TheVariants as unplayed
 
 -- so no code of the text is played

@@ -1,19 +1,13 @@
 -- What `campaign` writes where its jobs run in blocks.
 use Rattle.std.specs.Prelude.{◌≡◌, ◌⊎◌, ℕ, ◌<◌, ◌≤◌, true, All, Option, Some, None, is_some, List, [], ◌++◌, length, flat_map}
 use Rattle.mc_protocol.specs.Lines.{Word}
-use Rattle.mc_campaign.specs.ReportStatus.{status_of}
-use Rattle.mc_campaign.specs.ReportText.{count_of}
-use Rattle.mc_campaign.specs.declared.outcome.JobResult.{JobResult}
+use Rattle.mc_campaign.specs.{ReportStatus.status_of, ReportText.count_of, declared.outcome.JobResult.JobResult}
 use Rattle.mc_campaign.specs.declared.standing.Standing.TheVariants as standing
 use Rattle.mc_command.specs.CampaignAnswers.{AreResults, CampaignsOver, Connection, IsEnd, ShowsJobs, first_unexplained}
 use Rattle.mc_command.specs.CampaignAnswers.{not_run_text, text_of_report}
-use Rattle.mc_cli.specs.Args.{GREATEST_JOBS}
-use Rattle.mc_answers.specs.Statuses.{status_number}
-use Rattle.mc_answers.specs.Writing.{out_of_memory_text}
-use Rattle.mc_cli.specs.declared.args.Plan.{Plan}
-use Rattle.mc_answers.specs.declared.status.Status.{Status}
+use Rattle.mc_cli.specs.{Args.GREATEST_JOBS, declared.args.Plan.Plan, declared.args.Until.Until}
+use Rattle.mc_answers.specs.{Statuses.status_number, Writing.out_of_memory_text, declared.status.Status.Status}
 use Rattle.mc_answers.specs.declared.status.Status.TheVariants as status
-use Rattle.mc_cli.specs.declared.args.Until.{Until}
 
 -- a block has at most this many jobs
 abbrev pub MOST_IN_BLOCK : ℕ

@@ -2,29 +2,24 @@
 use Rattle.std.specs.Prelude.{◌≡◌, ◌⊎◌, ℕ, Bool, true, false, All, Option, Some, None, List, [], ◌∷◌, ◌++◌, codes, decimal, filter}
 use Rattle.std.specs.Prelude.{map, option_map, take, if◌then◌else◌}
 use Rattle.std.specs.List.{find, range_with_len}
+use Rattle.std.specs.declared.net.tcp.TcpStream.{TcpStream}
 use Rattle.mc_lane.specs.declared.wire.Wire.{Wire}
 use Rattle.mc_protocol.specs.Lines.{Word}
 use Rattle.mc_model.specs.Notes.{History}
-use Rattle.mc_explain.specs.Verdicts.{IsTrueOf}
-use Rattle.mc_explain.specs.declared.verdict.Verdict.{Verdict}
+use Rattle.mc_explain.specs.{Verdicts.IsTrueOf, declared.verdict.Verdict.Verdict}
 use Rattle.mc_script_text.specs.PrintedScript.{script_text}
 use Rattle.mc_script.specs.Script.{Script}
-use Rattle.mc_generate.specs.Generated.{generated}
+use Rattle.mc_generate.specs.{Generated.generated, Shrunk.IsShrunk}
 use Rattle.mc_settings.specs.JobKeys.{NameFits}
-use Rattle.mc_campaign.specs.Outcomes.{HasShortKeys, IsOutcome}
-use Rattle.mc_campaign.specs.ReportStatus.{status_of}
 use Rattle.mc_campaign.specs.ReportText.{brief_report_text, is_same_standing, report_text, standing_of}
-use Rattle.mc_generate.specs.Shrunk.{IsShrunk}
 use Rattle.mc_campaign.specs.declared.outcome.JobOutcome.{JobOutcome}
+use Rattle.mc_campaign.specs.{Outcomes.HasShortKeys, Outcomes.IsOutcome, ReportStatus.status_of, declared.outcome.JobResult.JobResult}
 use Rattle.mc_campaign.specs.declared.outcome.JobOutcome.TheVariants as outcome
-use Rattle.mc_campaign.specs.declared.outcome.JobResult.{JobResult}
 use Rattle.mc_history.specs.PrintedHistory.{history_text}
 use Rattle.mc_campaign.specs.declared.standing.Standing.TheVariants as standing
-use Rattle.mc_answers.specs.Statuses.{status_number}
-use Rattle.mc_answers.specs.WhyAnswers.{IsWhy, printed_line}
+use Rattle.mc_answers.specs.{Statuses.status_number, WhyAnswers.IsWhy, WhyAnswers.printed_line, declared.status.Status.Status}
 use Rattle.mc_cli.specs.declared.args.Plan.{Plan}
-use Rattle.mc_connect.specs.declared.socket.JobSocket.{JobSocket}
-use Rattle.mc_answers.specs.declared.status.Status.{Status}
+use Rattle.mc_connect.specs.declared.socket.Socket.{Socket}
 use Rattle.mc_answers.specs.declared.status.Status.TheVariants as status
 
 -- these are as many jobs of this seed, from the first on, in order, and what each may come to, with its keys under the name, if there is
@@ -133,4 +128,4 @@ CampaignsOver S plan name output ended =
 
 -- the streams of a campaign against a server
 abbrev pub Connection : Type 0
-Connection = Wire JobSocket
+Connection = Wire (Socket TcpStream)

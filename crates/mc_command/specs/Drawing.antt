@@ -1,7 +1,6 @@
 -- How a run meets, by what its options say and by the seed that the time gives.
 use Rattle.std.specs.Prelude.{ℕ}
-use Rattle.rand_pcg.specs.Lcg.{increment_of, started}
-use Rattle.rand_pcg.specs.Pcg.{multiplier_64}
+use Rattle.rand_pcg.specs.{Lcg.increment_of, Lcg.started, Pcg.multiplier_64}
 use Rattle.mc_run.specs.declared.manner.Meet.{Meet}
 use Rattle.mc_campaign.specs.Meetings.{meet_in}
 use Rattle.mc_generate.specs.Outputs.{outputs_of}

@@ -1,7 +1,7 @@
 -- Which code is played of a script that is run repeatedly.
 use Rattle.std.specs.Prelude.{Option, None, Some}
 use Rattle.mc_code.specs.Code.{Code}
-use Rattle.mc_verify.specs.Checked.{Checked}
+use Rattle.mc_sound.specs.Checked.{Checked}
 
 -- the code itself, or it under the last name
 abbrev pub code_of : Option Checked → Code → Code

@@ -2,19 +2,14 @@
 use Rattle.std.specs.Prelude.{◌≡◌, ◌⊎◌, ℕ, ◌+◌, ◌<◌, ◌≤◌, Bool, true, false, not, ◌&&◌, All, Option, Some, None, List, [], ◌∷◌, ◌++◌}
 use Rattle.std.specs.Prelude.{length, codes, decimal, if◌then◌else◌}
 use Rattle.mc_protocol.specs.Lines.{Word}
-use Rattle.mc_model.specs.History.{are_answered}
-use Rattle.mc_model.specs.Notes.{History}
+use Rattle.mc_model.specs.{History.are_answered, Notes.History}
 use Rattle.mc_code.specs.Code.{Code}
 use Rattle.mc_command.specs.RunAnswers.{IsRightFor, IsUnder, PlaysFor, Refuses, SpellsUnder, status_of, text_of}
-use Rattle.mc_answers.specs.Statuses.{is_success}
-use Rattle.mc_command.specs.Totals.{totals_line, totals_of}
+use Rattle.mc_command.specs.{Totals.totals_line, Totals.totals_of, declared.run.Played.Played, declared.totals.Totals.Totals}
+use Rattle.mc_answers.specs.{Statuses.is_success, Writing.out_of_memory_text, declared.status.Status.Status}
 use Rattle.mc_cli.specs.declared.args.Repeat.{Repeat}
-use Rattle.mc_command.specs.declared.run.Played.{Played}
 use Rattle.mc_command.specs.declared.run.Played.TheVariants as played
-use Rattle.mc_answers.specs.Writing.{out_of_memory_text}
-use Rattle.mc_answers.specs.declared.status.Status.{Status}
 use Rattle.mc_answers.specs.declared.status.Status.TheVariants as status
-use Rattle.mc_command.specs.declared.totals.Totals.{Totals}
 
 -- the run's status is 0
 abbrev pub succeeds : Played → Bool

@@ -1,15 +1,10 @@
 -- How requests were answered, counted.
 use Rattle.std.specs.Prelude.{◌≡◌, ℕ, ◌-◌, ◌^◌, ◌==◌, min, Bool, true, false, ◌&&◌, Option, Some, None, option_map}
-use Rattle.std.specs.Prelude.{List, replicate, slice_index_or}
-use Rattle.std.specs.List.{count_by}
-use Rattle.mc_protocol.specs.Legal.{class_of}
-use Rattle.mc_protocol.specs.Words.{class_index}
-use Rattle.mc_protocol.specs.declared.reply.Class.{Class}
-use Rattle.mc_protocol.specs.declared.request.Verb.{Verb}
+use Rattle.std.specs.{Prelude.List, Prelude.replicate, Prelude.slice_index_or, List.count_by}
+use Rattle.mc_protocol.specs.{Legal.class_of, Words.class_index, declared.reply.Class.Class, declared.request.Verb.Verb}
 use Rattle.mc_image.specs.Image.{verb_index}
 use Rattle.mc_model.specs.declared.sent.Sent.{Sent}
-use Rattle.mc_command.specs.declared.replies.Answers.{Answers}
-use Rattle.mc_command.specs.declared.replies.Replies.{Replies}
+use Rattle.mc_command.specs.{declared.replies.Answers.Answers, declared.replies.Replies.Replies}
 
 -- no count is greater
 abbrev pub capped : ℕ → ℕ

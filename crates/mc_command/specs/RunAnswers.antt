@@ -1,28 +1,22 @@
 -- What `run` answers to a script.
 use Rattle.std.specs.Prelude.{◌≡◌, ◌⊎◌, ℕ, Bool, true, false, Option, Some, None, List, [], ◌++◌, codes, Ok, Err}
-use Rattle.mc_protocol.specs.Lines.{Word}
-use Rattle.mc_protocol.specs.Words.{actor_word}
+use Rattle.mc_protocol.specs.{Lines.Word, Words.actor_word}
 use Rattle.mc_model.specs.Notes.{History}
 use Rattle.mc_code.specs.Code.{Code}
-use Rattle.mc_verify.specs.Faults.{IsSound}
+use Rattle.mc_sound.specs.Faults.{IsSound}
 use Rattle.mc_core.specs.Held.{Held}
 use Rattle.mc_history.specs.PrintedHistory.{history_text}
 use Rattle.mc_explain.specs.declared.verdict.Verdict.{Verdict}
-use Rattle.mc_run.specs.Agreement.{LaneRecords}
-use Rattle.mc_run.specs.Judged.{IsJudged}
+use Rattle.mc_run.specs.{Agreement.LaneRecords, Judged.IsJudged}
 use Rattle.mc_generate.specs.CodesUnder.{IsPutFault, code_under}
 use Rattle.mc_generate.specs.declared.naming.PutFault.TheVariants as put_fault
-use Rattle.mc_answers.specs.Endings.{endings_text, run_status}
 use Rattle.mc_answers.specs.Loading.{IsScriptRefusal, SaysUnsound, Spells}
-use Rattle.mc_answers.specs.Verdicts.{verdict_text}
-use Rattle.mc_answers.specs.WhyAnswers.{IsWhy, printed_line}
-use Rattle.mc_answers.specs.declared.refusal.Unanswered.{Unanswered}
+use Rattle.mc_answers.specs.{Endings.endings_text, Endings.run_status, Verdicts.verdict_text, WhyAnswers.IsWhy, WhyAnswers.printed_line}
+use Rattle.mc_answers.specs.{declared.refusal.Unanswered.Unanswered, declared.status.Status.Status}
 use Rattle.mc_answers.specs.declared.refusal.Unanswered.TheVariants as unanswered
-use Rattle.mc_command.specs.declared.run.Played.{Played}
+use Rattle.mc_command.specs.{declared.run.Played.Played, declared.target_code.Unplayed.Unplayed}
 use Rattle.mc_command.specs.declared.run.Played.TheVariants as played
-use Rattle.mc_command.specs.declared.target_code.Unplayed.{Unplayed}
 use Rattle.mc_command.specs.declared.target_code.Unplayed.TheVariants as unplayed
-use Rattle.mc_answers.specs.declared.status.Status.{Status}
 use Rattle.mc_answers.specs.declared.status.Status.TheVariants as status
 
 -- the code that is played of this one: itself, or it under a name

@@ -2,13 +2,10 @@
 use Rattle.std.specs.Prelude.{◌≡◌, ◌⊎◌, None, List, ℕ, codes, false}
 use Rattle.mc_code.specs.Code.{Code}
 use Rattle.mc_explain.specs.declared.verdict.Verdict.TheVariants as verdict
-use Rattle.mc_campaign.specs.ReportStatus.{status_of}
-use Rattle.mc_campaign.specs.declared.outcome.JobResult.{JobResult}
+use Rattle.mc_campaign.specs.{ReportStatus.status_of, declared.outcome.JobResult.JobResult}
 use Rattle.mc_command.specs.CampaignAnswers.{AreResults, Connection}
-use Rattle.mc_command.specs.RunAnswers.{IsRightFor, SpellsUnder}
-use Rattle.mc_command.specs.declared.run.Played.{Played}
+use Rattle.mc_command.specs.{RunAnswers.IsRightFor, RunAnswers.SpellsUnder, declared.run.Played.Played, declared.selftest.Part.Part}
 use Rattle.mc_command.specs.declared.run.Played.TheVariants as played
-use Rattle.mc_command.specs.declared.selftest.Part.{Part}
 use Rattle.mc_command.specs.declared.selftest.Part.TheVariants as part
 use Rattle.mc_answers.specs.declared.status.Status.{Status}
 use Rattle.mc_answers.specs.declared.status.Status.TheVariants as status

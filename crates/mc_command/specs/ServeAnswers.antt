@@ -1,7 +1,6 @@
 -- What `serve` writes.
 use Rattle.std.specs.Prelude.{◌≡◌, ◌⊎◌, ℕ, ◌<◌, ◌==◌, List, ◌++◌, codes, decimal, if◌then◌else◌}
-use Rattle.mc_server.specs.Listening.{Listens}
-use Rattle.mc_server.specs.declared.counts.Listened.{Listened}
+use Rattle.mc_server.specs.{Listening.Listens, declared.counts.Listened.Listened}
 use Rattle.mc_cli.specs.declared.args.ServeArgs.{ServeArgs}
 use Rattle.mc_answers.specs.declared.status.Status.{Status}
 use Rattle.mc_answers.specs.declared.status.Status.TheVariants as status

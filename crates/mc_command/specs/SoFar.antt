@@ -3,10 +3,7 @@ use Rattle.std.specs.Prelude.{◌≡◌, ◌⊎◌, ℕ, ◌<◌, ◌≤◌, Boo
 use Rattle.mc_cli.specs.declared.args.Repeat.{Repeat}
 use Rattle.mc_code.specs.Code.{Code}
 use Rattle.mc_command.specs.RepeatAnswers.{AreSettled, HandsOut, IsRightUnder, succeeds}
-use Rattle.mc_command.specs.RunAnswers.{IsRightFor}
-use Rattle.mc_command.specs.Totals.{totals_of}
-use Rattle.mc_command.specs.declared.repeating.Runs.{Runs}
-use Rattle.mc_command.specs.declared.run.Played.{Played}
+use Rattle.mc_command.specs.{RunAnswers.IsRightFor, Totals.totals_of, declared.repeating.Runs.Runs, declared.run.Played.Played}
 
 -- there were these runs of the code so far
 pub record IsSoFar (why : Bool) (code : Code) (all : List Played) (runs : Runs) : Type 0 where

@@ -1,20 +1,15 @@
 -- Statistics of runs that came to a history.
 use Rattle.std.specs.Prelude.{◌≡◌, ℕ, nat_lt, Bool, true, false, ◌&&◌, Option, Some, is_some, List, [], ◌∷◌, ◌++◌, length}
 use Rattle.std.specs.List.{count_by, flat_map, position}
-use Rattle.mc_protocol.specs.declared.actor.Actor.{Actor}
+use Rattle.mc_protocol.specs.{declared.actor.Actor.Actor, declared.reply.Class.Class, declared.request.Verb.Verb}
 use Rattle.mc_protocol.specs.declared.actor.Actor.TheVariants as actor
-use Rattle.mc_protocol.specs.declared.reply.Class.{Class}
-use Rattle.mc_protocol.specs.declared.request.Verb.{Verb}
 use Rattle.mc_history.specs.declared.event.Event.{Event}
 use Rattle.mc_history.specs.declared.event.Event.TheVariants as event
 use Rattle.mc_core.specs.Worlds.{Noted}
-use Rattle.mc_model.specs.Notes.{History, is_same_section}
-use Rattle.mc_model.specs.declared.sent.Sent.{Sent}
-use Rattle.mc_command.specs.Overlaps.{overlaps}
+use Rattle.mc_model.specs.{Notes.History, Notes.is_same_section, declared.sent.Sent.Sent}
 use Rattle.mc_command.specs.Replies.{CountsRequests, answers_in, answers_of, capped}
-use Rattle.mc_command.specs.declared.run.Played.{Played}
+use Rattle.mc_command.specs.{Overlaps.overlaps, declared.run.Played.Played, declared.statistics.Statistics.Statistics}
 use Rattle.mc_command.specs.declared.run.Played.TheVariants as played
-use Rattle.mc_command.specs.declared.statistics.Statistics.{Statistics}
 
 -- what was noted in a run, in order, and its history
 pub record Recorded : Type 0 where

@@ -1,16 +1,12 @@
 -- What is known of the jobs of a campaign that runs in blocks, as far as it is.
 use Rattle.std.specs.Prelude.{◌≡◌, ◌⊎◌, ◌<◌, ◌≤◌, ℕ, Bool, true, Option, Some, is_some, List, [], length, flat_map}
 use Rattle.mc_protocol.specs.Lines.{Word}
-use Rattle.mc_campaign.specs.ReportStatus.{status_of}
-use Rattle.mc_campaign.specs.declared.outcome.JobResult.{JobResult}
+use Rattle.mc_campaign.specs.{ReportStatus.status_of, declared.outcome.JobResult.JobResult}
 use Rattle.mc_command.specs.Blocks.{AreReports, BeginsRightly, jobs_of, unexplained_of}
 use Rattle.mc_command.specs.CampaignAnswers.{ShowsJobs, first_unexplained, text_of_report}
-use Rattle.mc_answers.specs.Statuses.{status_number}
-use Rattle.mc_answers.specs.Streams.{Grows}
-use Rattle.mc_cli.specs.declared.args.Plan.{Plan}
-use Rattle.mc_command.specs.declared.gathered.Gathered.{Gathered}
-use Rattle.mc_command.specs.declared.tally.Tally.{Tally}
-use Rattle.mc_cli.specs.declared.args.Until.{Until}
+use Rattle.mc_command.specs.{declared.gathered.Gathered.Gathered, declared.tally.Tally.Tally}
+use Rattle.mc_answers.specs.{Statuses.status_number, Streams.Grows}
+use Rattle.mc_cli.specs.{declared.args.Plan.Plan, declared.args.Until.Until}
 
 -- how many there are, how many of them are unexplained, which is the first of these, and the status of one report of them all
 pub record IsTally {S : Type 0} (results : List (JobResult S)) (tally : Tally) : Type 0 where

@@ -5,12 +5,10 @@ use Rattle.mc_core.specs.declared.ending.Ending.{Ending}
 use Rattle.mc_core.specs.declared.ending.Ending.TheVariants as ending
 use Rattle.mc_explain.specs.declared.verdict.Verdict.{Verdict}
 use Rattle.mc_explain.specs.declared.verdict.Verdict.TheVariants as verdict
-use Rattle.mc_command.specs.Overlaps.{overlaps}
-use Rattle.mc_command.specs.declared.run.Played.{Played}
-use Rattle.mc_command.specs.declared.run.Played.TheVariants as played
 use Rattle.mc_command.specs.declared.totals.RunClass.{RunClass}
+use Rattle.mc_command.specs.{Overlaps.overlaps, declared.run.Played.Played, declared.totals.Totals.Totals}
+use Rattle.mc_command.specs.declared.run.Played.TheVariants as played
 use Rattle.mc_command.specs.declared.totals.RunClass.TheVariants as class
-use Rattle.mc_command.specs.declared.totals.Totals.{Totals}
 
 -- ---- what a run counts as
 

@@ -5,12 +5,10 @@
 ghost use Rattle.std.specs.Prelude.{◌≡◌, ◌≢◌, ◌+◌, ◌<◌, ◌≤◌, ◌^◌, ◌++◌, ℕ, List, length, false, true, Err, IfErr, IfOk, OnOk, Option, Some};
 ghost use Rattle.std.specs.Option.{option_copied};
 ghost use Rattle.mc_campaign.specs.declared.outcome.JobResult.{JobResult};
-ghost use Rattle.mc_command.specs.Blocks.{EndsWith, InBlocks, MOST_IN_BLOCK};
-ghost use Rattle.mc_command.specs.CampaignAnswers.{AreResults};
-ghost use Rattle.mc_cli.specs.Args as args;
-ghost use Rattle.mc_answers.specs.Streams.{Grows};
 ghost use Rattle.mc_command.specs.Tallies.{HasGathered, HasReported, HasWritten, IsOver, Stands};
-ghost use Rattle.mc_answers.specs.Writing.{out_of_memory_text};
+ghost use Rattle.mc_command.specs.{Blocks.EndsWith, Blocks.InBlocks, Blocks.MOST_IN_BLOCK, CampaignAnswers.AreResults};
+ghost use Rattle.mc_cli.specs.Args as args;
+ghost use Rattle.mc_answers.specs.{Streams.Grows, Writing.out_of_memory_text};
 ghost use Rattle.mc_answers.specs.declared.status.Status.TheVariants as status;
 
 use crate::block_connector::{BlockConnector, BlockWatcher, GivesUp, first_of, is_over};

@@ -1,12 +1,9 @@
 //! The command `campaign`, over any stream for output.
 ghost use Rattle.std.specs.Prelude.{◌≡◌, ◌⊎◌, ◌+◌, ◌++◌, ◌≤◌, ◌^◌, ℕ, All, List, [], Option, Err, IfOk, false, true};
 ghost use Rattle.std.specs.Option.{option_copied};
-ghost use Rattle.mc_command.specs.Blocks.{CampaignsUntil};
+ghost use Rattle.mc_command.specs.{Blocks.CampaignsUntil, Command.WritesReport};
 ghost use Rattle.mc_command.specs.CampaignAnswers as answers;
-ghost use Rattle.mc_command.specs.Command.{WritesReport};
-ghost use Rattle.mc_answers.specs.Statuses.{status_number};
-ghost use Rattle.mc_answers.specs.Streams.{Grows};
-ghost use Rattle.mc_answers.specs.Writing.{out_of_memory_text};
+ghost use Rattle.mc_answers.specs.{Statuses.status_number, Streams.Grows, Writing.out_of_memory_text};
 
 use crate::block_connector::GivesUp;
 use crate::blocks::answer_in_blocks;

@@ -1,10 +1,10 @@
 //! What the program says of a run beside its answer: how a section failed, with what it had asked and what came, and what came after the
 //! last reply.
 use mc_cli::Seconds;
-use mc_connect::{Connection, Connections, Waiting};
+use mc_connect::{Connection, Socket, Waiting};
 use mc_lane::{Lane, Stream};
 use mc_model::{History, Sent};
-use mc_protocol::{Actor, Fault, Request, render_request};
+use mc_protocol::{Actor, Fault, Request, Sections, render_request};
 use mc_reader::{ReadFault, ReplyReader, Shape};
 use mc_run::Lanes;
 use std::alloc::{AllocError, Global};
@@ -23,16 +23,15 @@ pub fn evidence_of<S: Stream, C: Connection>(
     alloc: Global,
     history: &History,
     lanes: &Lanes<S>,
-    connections: &Connections<C>,
+    sockets: &Sections<Option<Socket<C>>>,
     timeout: Option<Seconds<'_>>,
 ) -> Result<Vec<String>, AllocError> {
     let mut remarks = Vec::new(alloc);
     for section in [Actor::P, Actor::A, Actor::B] {
         let sent = history.sent(section);
         let lane = lanes.get(section);
-        let stream = connections.stream(section);
-        let error = connections.error(section);
-        if let Some(said) = section_text(alloc, sent, lane, stream, error, timeout)? {
+        let socket = sockets.get(section);
+        if let Some(said) = section_text(alloc, sent, lane, socket, timeout)? {
             remarks.push(format!(in alloc; "{}: {said}", section.word())?)?;
         }
     }
@@ -44,20 +43,22 @@ fn section_text<S: Stream, C: Connection>(
     alloc: Global,
     sent: &[Sent],
     lane: &Lane<S>,
-    stream: &C,
-    error: Option<io::Error>,
+    socket: &Option<Socket<C>>,
     timeout: Option<Seconds<'_>>,
 ) -> Result<Option<String>, AllocError> {
+    let Some(socket) = socket else {
+        return failure_text(alloc, sent, lane, None, timeout);
+    };
     match (lane.fault(), sent.last()) {
         (None, Some(Sent { reply: Some(_), .. })) => {
             let mut all = Vec::from_slice(alloc, &lane.got()[lane.taken()..])?;
-            all.extend_from_slice(Waiting::on(alloc, stream).bytes.as_slice())?;
+            all.extend_from_slice(Waiting::on(alloc, socket.connection()).bytes.as_slice())?;
             if all.is_empty() {
                 return Ok(None);
             }
             Ok(Some(surplus_text(alloc, &all)?))
         }
-        _ => failure_text(alloc, sent, lane, error, timeout),
+        _ => failure_text(alloc, sent, lane, socket.error(), timeout),
     }
 }
 

@@ -1,10 +1,9 @@
 //! The jobs of a campaign that runs in blocks, as far as they are known.
 ghost use Rattle.std.specs.Prelude.{◌≡◌, ◌+◌, ◌-◌, ◌<◌, ◌≤◌, ◌^◌, ◌++◌, All, Bool, List, [], false, length, min, true, IfOk, OnOk};
 ghost use Rattle.mc_campaign.specs.declared.outcome.JobResult.{JobResult};
-ghost use Rattle.mc_command.specs.Blocks.{MOST_IN_BLOCK};
+ghost use Rattle.mc_command.specs.{Blocks.MOST_IN_BLOCK, Tallies.Gathers};
 ghost use Rattle.mc_command.specs.CampaignAnswers as answers;
 ghost use Rattle.mc_cli.specs.Args as args;
-ghost use Rattle.mc_command.specs.Tallies.{Gathers};
 
 use crate::campaigning::{text_of_report, text_of_shown};
 use crate::showing::MOST_SHOWN;

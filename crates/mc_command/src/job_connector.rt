@@ -1,7 +1,7 @@
 //! What connects the jobs of a campaign to its server.
 use crate::block_connector::GivesUp;
 use mc_campaign::Connector;
-use mc_connect::{Dialer, JobSocket};
+use mc_connect::{Dialer, Socket};
 use mc_lane::Wire;
 use mc_protocol::{Actor, Sections};
 use std::io::Eprint;
@@ -15,16 +15,16 @@ pub struct JobConnector<'a, R> {
     pub dialer: &'a Dialer<'a, R>,
 }
 
-impl<'a, R> Connector<Wire<JobSocket>> for JobConnector<'a, R>
+impl<'a, R> Connector<Wire<Socket<TcpStream>>> for JobConnector<'a, R>
 where
     R: Net<Listener = TcpListener, Stream = TcpStream> + Clock + Wait + Eprint + Sync,
 {
-    fn connect(&self, job: u64, section: Actor) -> Option<Wire<JobSocket>> {
+    fn connect(&self, job: u64, section: Actor) -> Option<Wire<Socket<TcpStream>>> {
         let socket = self.dialer.connect(job, section)?;
         Some(Wire::new(socket))
     }
 
-    fn release(&self, streams: Sections<Option<Wire<JobSocket>>>) {
+    fn release(&self, streams: Sections<Option<Wire<Socket<TcpStream>>>>) {
         let Sections { p, a, b } = streams;
         self.dialer.release(Sections {
             p: socket_of(p),
@@ -44,6 +44,6 @@ where
 }
 
 // The connection, if there is one.
-fn socket_of(wire: Option<Wire<JobSocket>>) -> Option<JobSocket> {
+fn socket_of(wire: Option<Wire<Socket<TcpStream>>>) -> Option<Socket<TcpStream>> {
     Some(wire?.into_inner())
 }

@@ -3,10 +3,10 @@ ghost use Rattle.std.specs.Prelude.{◌≡◌, IfOk};
 ghost use Rattle.mc_command.specs.RunAnswers as answers;
 
 use crate::evidence::later_evidence;
-use crate::run::{Played, Remarks, no_connection, play_connections, status_of, wait_for_more};
+use crate::run::{Played, Ran, Remarks, no_connection, play_connections, status_of, wait_for_more};
 use mc_cli::RunArgs;
 use mc_connect::{Connection, Kept, Network, Unconnected};
-use mc_verify::Checked;
+use mc_sound::Checked;
 use std::alloc::{AllocError, Global};
 use std::rt::Clock;
 use std::sync::Wait;
@@ -29,12 +29,16 @@ pub fn play_kept<R: Threads + Wait + Clock + Sync, N: Network>(
         Ok(connections) => connections,
         Err(Unconnected { section, error }) => return Ok(no_connection(section, error)),
     };
-    let (played, remarks) = play_connections(rt, alloc, target, checked, &connections)?;
+    let Ran {
+        played,
+        remarks,
+        connections,
+    } = play_connections(rt, alloc, target, checked, connections)?;
     if !target.reconnect && is_clean(&played, &remarks) {
         kept.keep(connections);
     } else {
         // Another run may follow, and this side is not to run out of ports.
-        network.quit(connections.into_streams());
+        network.release(connections);
     }
     Ok((played, remarks))
 }

@@ -1,10 +1,8 @@
 //! The command `run`, over any streams for input and output.
 ghost use Rattle.std.specs.Prelude.{◌≡◌, ℕ, ◌≤◌, List, length, None, IfOk, IfErr};
 ghost use Rattle.mc_answers.specs.Answers.{AnswersRightly, INPUT_LIMIT, IsAnswerBy, IsWhole};
+ghost use Rattle.mc_answers.specs.{Statuses.status_number, Streams.TakesAtMost, Writing.WritesRightly};
 ghost use Rattle.mc_answers.specs.Input as input_rule;
-ghost use Rattle.mc_answers.specs.Statuses.{status_number};
-ghost use Rattle.mc_answers.specs.Streams.{TakesAtMost};
-ghost use Rattle.mc_answers.specs.Writing.{WritesRightly};
 ghost use Rattle.mc_command.specs.RepeatAnswers.{AnswersFor, Runs};
 ghost use Rattle.mc_command.specs.RunAnswers as run_answers;
 
@@ -16,7 +14,7 @@ use crate::target_code::{read_target_code, unplayed_answer};
 use mc_answers::{Answer, InputFault, Sink, Source, Status, read_text, write_fault, write_text};
 use mc_cli::{RunArgs, Search};
 use mc_connect::{Network, TcpNetwork};
-use mc_verify::Checked;
+use mc_sound::Checked;
 use std::alloc::{AllocError, Global};
 use std::net::{Net, TcpStream};
 use std::rt::Clock;

@@ -4,7 +4,7 @@
 //! nothing is wrong.
 ghost use Rattle.std.specs.Prelude.{◌≡◌, None, Some, IfOk, true};
 ghost use Rattle.mc_model.specs.History as histories;
-ghost use Rattle.mc_verify.specs.Checked.{Checked};
+ghost use Rattle.mc_sound.specs.Checked.{Checked};
 ghost use Rattle.mc_command.specs.RepeatAnswers as answers;
 ghost use Rattle.mc_command.specs.Renaming.{code_of};
 
@@ -13,7 +13,7 @@ use crate::target_code::{Unplayed, put_code_under};
 use mc_model::{History, Sent};
 use mc_protocol::Actor;
 use mc_settings::Namespace;
-use mc_verify::Checked;
+use mc_sound::Checked;
 use std::alloc::{AllocError, Global};
 use std::rt::Clock;
 

@@ -13,7 +13,7 @@ use crate::totals::Totals;
 use mc_answers::{InputFault, Sink, Status, write_fault, write_text};
 use mc_cli::{Repeat, RunArgs};
 use mc_connect::{Connection, Kept, Network};
-use mc_verify::Checked;
+use mc_sound::Checked;
 use std::alloc::{AllocError, Global};
 use std::io;
 use std::rt::Clock;

@@ -2,9 +2,7 @@
 ghost use Rattle.std.specs.Prelude.{◌≡◌, ◌<◌, ◌-◌, ◌^◌, ◌⊎◌, Bool, false, true, not, List, ◌∷◌, [], ◌++◌, length, IfOk, IfSome, None};
 ghost use Rattle.mc_code.specs.Code.{Code};
 ghost use Rattle.mc_command.specs.RepeatAnswers as answers;
-ghost use Rattle.mc_command.specs.RunAnswers.{IsRightFor};
-ghost use Rattle.mc_command.specs.SoFar.{AreFirst, IsSoFar};
-ghost use Rattle.mc_command.specs.declared.run.Played.{Played};
+ghost use Rattle.mc_command.specs.{RunAnswers.IsRightFor, SoFar.AreFirst, SoFar.IsSoFar, declared.run.Played.Played};
 
 use crate::keeping::{later_remarks, play_kept};
 use crate::renaming::{Renaming, leaves_request};
@@ -13,7 +11,7 @@ use crate::run_teller::RunObserver;
 use crate::totals::Totals;
 use mc_cli::{Repeat, RunArgs};
 use mc_connect::{Kept, Network};
-use mc_verify::Checked;
+use mc_sound::Checked;
 use std::alloc::{AllocError, Global};
 use std::io;
 use std::rt::Clock;

@@ -3,19 +3,20 @@ ghost use Rattle.std.specs.Prelude.{◌≡◌, IfOk};
 ghost use Rattle.mc_command.specs.RunAnswers as answers;
 
 use crate::evidence::evidence_of;
-use crate::lanes::new_lanes;
+use crate::lanes::{new_lanes, take_sockets};
 use crate::meeting::draw_meet;
 use core::thread::Stack;
 use mc_answers::{Counted, Status, endings_text, status_of_run, verdict_text, why_text};
 use mc_cli::RunArgs;
-use mc_connect::{Connection, Connections, Network, Unconnected};
+use mc_connect::{Connection, Kept, Network, Socket, Unconnected};
 use mc_core::World;
 use mc_explain::Verdict;
 use mc_history::print_history;
+use mc_lane::Wire;
 use mc_model::History;
-use mc_protocol::Actor;
-use mc_run::{FreeGate, Judged, Run, RunError, play};
-use mc_verify::Checked;
+use mc_protocol::{Actor, Sections};
+use mc_run::{FreeGate, Judged, Lanes, Run, RunError, play};
+use mc_sound::Checked;
 use std::alloc::{AllocError, Global};
 use std::io;
 use std::rt::Clock;
@@ -51,6 +52,14 @@ pub enum Remarks {
     Evidence(Vec<String>),
 }
 
+/// What came of a run, what standard error says of it, and its connections, as far as they are there.
+#[derive(Drop)]
+pub struct Ran<C> {
+    pub played: Played,
+    pub remarks: Remarks,
+    pub connections: Sections<Option<C>>,
+}
+
 /// Runs the code over three new connections to the server, and judges what came of it. How its branches meet is drawn where the target
 /// says so. What standard error is to say comes with the answer.
 pub fn play_code<R: Threads + Wait + Clock + Sync, N: Network>(
@@ -62,10 +71,10 @@ pub fn play_code<R: Threads + Wait + Clock + Sync, N: Network>(
 ) -> Result<(Played, Remarks), AllocError>
     ensures { IfOk result (λ played. answers.IsRightFor target.now.how.why checked.now.code played.0) }
 {
-    match network.connect() {
-        Ok(streams) => {
-            let connections = Connections::new(streams);
-            play_connections(rt, alloc, target, checked, &connections)
+    match Kept::new(alloc).take_or_connect(network) {
+        Ok(connections) => {
+            let ran = play_connections(rt, alloc, target, checked, connections)?;
+            Ok((ran.played, ran.remarks))
         }
         Err(Unconnected { section, error }) => Ok(no_connection(section, error)),
     }
@@ -87,36 +96,77 @@ pub fn play_connections<R: Threads + Wait + Clock + Sync, C: Connection>(
     alloc: Global,
     target: &RunArgs<'_>,
     checked: &Checked,
-    connections: &Connections<C>,
-) -> Result<(Played, Remarks), AllocError>
-    ensures { IfOk result (λ played. answers.IsRightFor target.now.how.why checked.now.code played.0) }
+    connections: Sections<C>,
+) -> Result<Ran<C>, AllocError>
+    ensures { IfOk result (λ ran. answers.IsRightFor target.now.how.why checked.now.code ran.played) }
 {
     let lanes = new_lanes(alloc, connections);
     let meet = draw_meet(rt, target.meeting, target.spread);
-    let how = target.how;
-    let stack = Stack::new();
-    match play(rt, alloc, checked, lanes, &FreeGate, stack, meet, how.limit) {
-        Ok(judged) => {
-            let Judged {
-                run,
-                history,
-                verdict,
-                turns: _,
-            } = judged;
-            let why = why_text(alloc, how, Counted::Printed, &history, &verdict)?;
-            let Run { world, lanes } = run;
-            if target.repeat.is_none() {
-                // No other run finds what comes a little later.
-                wait_for_more(rt);
-            }
-            let evidence = evidence_of(alloc, &history, &lanes, connections, target.timeout)?;
-            Ok((
-                Played::Ended(world, history, verdict, why),
-                Remarks::Evidence(evidence),
-            ))
-        }
-        Err(RunError::OutOfMemory) => Err(AllocError),
-        Err(RunError::BookMismatch | RunError::NoThread) => Ok((Played::NotRun, Remarks::None)),
+    let limit = target.how.limit;
+    let judged = match play(
+        rt,
+        alloc,
+        checked,
+        lanes,
+        &FreeGate,
+        Stack::new(),
+        meet,
+        limit,
+    ) {
+        Ok(judged) => judged,
+        Err(RunError::OutOfMemory) => return Err(AllocError),
+        Err(RunError::BookMismatch | RunError::NoThread) => return Ok(not_run()),
+    };
+    let Judged {
+        run,
+        history,
+        verdict,
+        turns: _,
+    } = judged;
+    let why = why_text(alloc, target.how, Counted::Printed, &history, &verdict)?;
+    let Run { world, lanes } = run;
+    if target.repeat.is_none() {
+        // No other run finds what comes a little later.
+        wait_for_more(rt);
+    }
+    let (evidence, connections) = close_lanes(alloc, target, &history, lanes)?;
+    Ok(Ran {
+        played: Played::Ended(world, history, verdict, why),
+        remarks: Remarks::Evidence(evidence),
+        connections,
+    })
+}
+
+// A remark on each section of which there is something to say, and the connections of the lanes, which are closed.
+fn close_lanes<C: Connection>(
+    alloc: Global,
+    target: &RunArgs<'_>,
+    history: &History,
+    mut lanes: Lanes<Wire<Socket<C>>>,
+) -> Result<(Vec<String>, Sections<Option<C>>), AllocError> {
+    let sockets = take_sockets(&mut lanes);
+    let evidence = evidence_of(alloc, history, &lanes, &sockets, target.timeout)?;
+    let Sections { p, a, b } = sockets;
+    let connections = Sections {
+        p: p.map(|it| it.into_connection()),
+        a: a.map(|it| it.into_connection()),
+        b: b.map(|it| it.into_connection()),
+    };
+    Ok((evidence, connections))
+}
+
+// The answer where there was no run.
+fn not_run<C>() -> Ran<C>
+    ensures { result.played ≡ Played.NotRun }
+{
+    Ran {
+        played: Played::NotRun,
+        remarks: Remarks::None,
+        connections: Sections {
+            p: None,
+            a: None,
+            b: None,
+        },
     }
 }
 

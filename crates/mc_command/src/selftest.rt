@@ -1,7 +1,6 @@
 //! The command `selftest`: a campaign against a server that is right, and a run against one with a race, both in this process.
 ghost use Rattle.std.specs.Prelude.{◌≡◌, true, IfOk};
-ghost use Rattle.mc_answers.specs.Statuses.{status_number};
-ghost use Rattle.mc_answers.specs.Writing.{WritesRightly};
+ghost use Rattle.mc_answers.specs.{Statuses.status_number, Writing.WritesRightly};
 ghost use Rattle.mc_command.specs.SelftestAnswers as answers;
 
 use crate::both_read::BothRead;

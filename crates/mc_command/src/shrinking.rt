@@ -1,7 +1,6 @@
 //! The script of a job, shrunk by new runs.
 ghost use Rattle.std.specs.Prelude.{IfOk};
-ghost use Rattle.mc_generate.specs.Generated.{generated};
-ghost use Rattle.mc_generate.specs.Shrunk.{IsShrunk};
+ghost use Rattle.mc_generate.specs.{Generated.generated, Shrunk.IsShrunk};
 
 use mc_answers::verify_code;
 use mc_campaign::{Campaign, Connector, Standing, play_job};
@@ -11,7 +10,7 @@ use mc_lane::Stream;
 use mc_run::FreeGate;
 use mc_script::Script;
 use mc_settings::Namespace;
-use mc_verify::Checked;
+use mc_sound::Checked;
 use std::alloc::{AllocError, Global};
 use std::sync::Wait;
 use std::thread::Threads;

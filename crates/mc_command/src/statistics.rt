@@ -1,8 +1,7 @@
 //! The flag `--stats`, and what it tells of runs: how they overlapped, and how their requests were answered.
 ghost use Rattle.std.specs.Prelude.{◌≡◌, ◌+◌, List, ◌∷◌, [], ◌++◌, ◌&&◌, false, is_some, if◌then◌else◌};
-ghost use Rattle.mc_command.specs.Replies.{capped};
+ghost use Rattle.mc_command.specs.{Replies.capped, Statistics.AreStatistics, Statistics.Recorded};
 ghost use Rattle.mc_command.specs.Statistics as spec;
-ghost use Rattle.mc_command.specs.Statistics.{AreStatistics, Recorded};
 
 use crate::overlap::{is_same, overlaps};
 use crate::replies::Replies;

@@ -1,7 +1,6 @@
 //! What the jobs of a campaign came to, together, as far as they have run.
 ghost use Rattle.std.specs.Prelude.{◌≡◌, ◌+◌, ◌-◌, ◌<◌, ◌^◌, List, ◌++◌, length, min};
-ghost use Rattle.mc_command.specs.Blocks.{unexplained_of};
-ghost use Rattle.mc_command.specs.Tallies.{IsTally};
+ghost use Rattle.mc_command.specs.{Blocks.unexplained_of, Tallies.IsTally};
 ghost use Rattle.mc_campaign.specs.declared.outcome.JobResult.{JobResult};
 
 use crate::campaigning::{first_unexplained, is_unexplained, status_of};

@@ -7,7 +7,7 @@ use mc_answers::{Answer, Status, Unanswered, load_sound, sound_code};
 use mc_cli::{RunArgs, long_key_text};
 use mc_generate::{PutFault, put_under};
 use mc_settings::Namespace;
-use mc_verify::Checked;
+use mc_sound::Checked;
 use std::alloc::{AllocError, Global};
 
 /// Why no code is played.

@@ -5,7 +5,7 @@ use crate::dial::{connect, dial};
 use crate::failures::Failures;
 use crate::pool::Pool;
 use crate::servers::Servers;
-use crate::socket::JobSocket;
+use crate::socket::Socket;
 use mc_protocol::{Actor, Sections};
 use std::alloc::Global;
 use std::io;
@@ -77,7 +77,7 @@ where
 
     /// A connection of a job's section, which an earlier job has left or which is new; or nothing where there is none or it has given
     /// up, which is noted.
-    pub fn connect(&self, job: u64, section: Actor) -> Option<JobSocket> {
+    pub fn connect(&self, job: u64, section: Actor) -> Option<Socket<TcpStream>> {
         if self.failures.end_with(job) {
             return None;
         }
@@ -95,12 +95,12 @@ where
 
     /// Takes back the connections of a job that has ended. They are kept for later jobs; or else the server is asked to close them, and
     /// this waits until it has closed those of the job before.
-    pub fn release(&self, connections: Sections<Option<JobSocket>>) {
+    pub fn release(&self, connections: Sections<Option<Socket<TcpStream>>>) {
         let Sections { p, a, b } = connections;
         let streams = Sections {
-            p: p.map(JobSocket::into_stream),
-            a: a.map(JobSocket::into_stream),
-            b: b.map(JobSocket::into_stream),
+            p: p.map(|it| it.into_connection()),
+            a: a.map(|it| it.into_connection()),
+            b: b.map(|it| it.into_connection()),
         };
         if self.reconnects {
             self.close(streams);
@@ -147,8 +147,8 @@ where
     }
 
     // The connection of a job's section. If there is no memory, it isn't noted why a call of it failed.
-    fn watched(&self, job: u64, section: Actor, stream: TcpStream) -> JobSocket {
-        JobSocket::new(stream, self.call_errors.add(job, section).ok())
+    fn watched(&self, job: u64, section: Actor, stream: TcpStream) -> Socket<TcpStream> {
+        Socket::noting(stream, self.call_errors.add(job, section).ok())
     }
 
     // The address that took the first connection, if one has.

@@ -20,6 +20,7 @@ mod servers;
 mod socket;
 mod tcp_network;
 mod timed_stream;
+mod waiting;
 
 pub use descriptors::{HeldDescriptors, STANDARD_INPUT, STANDARD_OUTPUT};
 pub use dial::has_port;
@@ -28,5 +29,6 @@ pub use failures::Unreached;
 pub use kept::Kept;
 pub use network::{Connection, Network, Unconnected};
 pub use servers::Servers;
-pub use socket::{Connections, JobSocket, Socket, Waiting};
+pub use socket::Socket;
 pub use tcp_network::TcpNetwork;
+pub use waiting::Waiting;

@@ -4,8 +4,8 @@ ghost use Rattle.std.specs.Prelude.{◌≤◌, IfOk, length};
 use mc_protocol::{Actor, Sections};
 use std::io;
 
-/// A connection to a server. It is read and written through a shared reference, by one thread at a time.
-pub trait Connection: Sync + Drop {
+/// A connection to a server. Any thread may read and write it, one at a time.
+pub trait Connection: Send + Drop {
     /// Reads some bytes into the front of `buffer`, and answers how many: 0 where the server has ended the connection.
     ///
     /// # Errors
@@ -48,21 +48,13 @@ pub trait Network {
     /// What each of them gets.
     type Connection: Connection;
 
-    /// A new connection of each section to its server.
-    ///
-    /// # Errors
-    ///
-    /// The first section that gets none, and why.
-    fn connect(&mut self) -> Result<Sections<Self::Connection>, Unconnected>;
-
-    /// A new connection of one section, in place of an earlier one which the server has closed: to the section's server, and where that
-    /// is P's, at the address that took P.
+    /// A new connection of the section to its server, and where that is P's, at the address that took P.
     ///
     /// # Errors
     ///
     /// That the section gets none, and why.
-    fn reconnect(&mut self, section: Actor) -> Result<Self::Connection, Unconnected>;
+    fn connect(&mut self, section: Actor) -> Result<Self::Connection, Unconnected>;
 
-    /// Takes back connections that are done with, where another run may follow.
-    fn quit(&mut self, connections: Sections<Self::Connection>);
+    /// Takes back connections that are done with, as far as they are there, where another run may follow. All of its are new.
+    fn release(&mut self, connections: Sections<Option<Self::Connection>>);
 }

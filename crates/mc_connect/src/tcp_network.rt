@@ -13,7 +13,7 @@ use std::rt::Clock;
 pub struct TcpNetwork<'a, R> {
     rt: &'a R,
     servers: Servers<'a>,
-    // The address that took P last.
+    // The address that took P, where others may be connected to it.
     address: Option<SocketAddr>,
 }
 
@@ -31,18 +31,10 @@ impl<'a, R> TcpNetwork<'a, R> {
 impl<'a, R: Net<Stream = TcpStream> + Clock + Sync> Network for TcpNetwork<'a, R> {
     type Connection = TimedStream<'a, R>;
 
-    /// They are connected in the order P, A, B. P looks the server's name up and tries its addresses one after another, and all of this
-    /// again every 50 ms for as long as `wait` of its servers says. So does a branch that has a server of its own; any other connects to
-    /// the address that took P.
-    fn connect(&mut self) -> Result<Sections<TimedStream<'a, R>>, Unconnected> {
-        self.address = None;
-        let p = self.reconnect(Actor::P)?;
-        let a = self.reconnect(Actor::A)?;
-        let b = self.reconnect(Actor::B)?;
-        Ok(Sections { p, a, b })
-    }
-
-    fn reconnect(&mut self, section: Actor) -> Result<TimedStream<'a, R>, Unconnected> {
+    /// P looks its server's name up and tries the addresses one after another, and all of this again every 50 ms for as long as `wait` of
+    /// the servers says. So does a branch that has a server of its own; any other connects to the address that took P. P goes there, too,
+    /// until connections are released.
+    fn connect(&mut self, section: Actor) -> Result<TimedStream<'a, R>, Unconnected> {
         let (stream, address) = dial(self.rt, &self.servers, section, self.address).map_err(
             |error| Unconnected { section, error },
         )?;
@@ -53,12 +45,13 @@ impl<'a, R: Net<Stream = TcpStream> + Clock + Sync> Network for TcpNetwork<'a, R
     }
 
     /// Has the server close them, and waits for that, but not for long.
-    fn quit(&mut self, connections: Sections<TimedStream<'a, R>>) {
+    fn release(&mut self, connections: Sections<Option<TimedStream<'a, R>>>) {
+        self.address = None;
         let Sections { p, a, b } = connections;
         let closing = Closing::ask(Sections {
-            p: Some(p.into_stream()),
-            a: Some(a.into_stream()),
-            b: Some(b.into_stream()),
+            p: p.map(TimedStream::into_stream),
+            a: a.map(TimedStream::into_stream),
+            b: b.map(TimedStream::into_stream),
         });
         closing.wait(self.rt);
     }

@@ -1,4 +1,4 @@
-//! TCP connections whose reads and writes have a time limit, and go on where they are interrupted.
+//! TCP connections: their reads and writes go on where they are interrupted.
 ghost use Rattle.std.specs.Prelude.{◌≤◌, IfOk, length};
 
 use crate::network::Connection;
@@ -9,14 +9,14 @@ use std::net::TcpStream;
 use std::rt::Clock;
 use std::time::{Duration, Instant};
 
-// A call that is interrupted is repeated at most this many times.
-const MOST_REPEATS: u32 = 1_000;
+// A call that is interrupted is made this many times at most.
+const MOST_CALLS: u32 = 1_000;
 
 // A call that is repeated may take this many milliseconds at least, so that what came meanwhile is still read.
 const SHORTEST: u64 = 1;
 
-/// A TCP connection. If its reads and writes have a time limit, the system interrupts one that waits while the program is stopped, as by
-/// Ctrl-Z, and goes on. Such a call is repeated with the time that is left.
+/// A TCP connection that has a clock. If its reads and writes have a time limit, the system interrupts one that waits while the program is
+/// stopped, as by Ctrl-Z, and goes on. Such a call is repeated with the time that is left.
 #[derive(Drop)]
 pub struct TimedStream<'a, R> {
     rt: &'a R,
@@ -41,10 +41,10 @@ impl<'a, R: Clock + Sync> Connection for TimedStream<'a, R> {
     fn receive(&self, buffer: &mut [u8]) -> io::Result<usize> {
         let mut stream = &self.stream;
         let Some(limit) = self.limit else {
-            return stream.read(buffer);
+            return stream.receive(buffer);
         };
         let begun = Instant::now(self.rt)?;
-        for repeats in 0..MOST_REPEATS {
+        for repeats in 0..MOST_CALLS {
             let result = stream.read(buffer);
             if !is_interrupted(&result) {
                 if repeats > 0 {
@@ -62,10 +62,10 @@ impl<'a, R: Clock + Sync> Connection for TimedStream<'a, R> {
     fn send(&self, bytes: &[u8]) -> io::Result<usize> {
         let mut stream = &self.stream;
         let Some(limit) = self.limit else {
-            return stream.write(bytes);
+            return stream.send(bytes);
         };
         let begun = Instant::now(self.rt)?;
-        for repeats in 0..MOST_REPEATS {
+        for repeats in 0..MOST_CALLS {
             let result = stream.write(bytes);
             if !is_interrupted(&result) {
                 if repeats > 0 {
@@ -86,6 +86,39 @@ impl<'a, R: Clock + Sync> Connection for TimedStream<'a, R> {
 
     fn set_nonblocking(&self, nonblocking: bool) -> io::Result<()> {
         self.stream.set_nonblocking(nonblocking)
+    }
+}
+
+/// A TCP connection without a clock. A call that is interrupted is made again, with the whole of its time.
+impl Connection for TcpStream {
+    fn receive(&self, buffer: &mut [u8]) -> io::Result<usize> {
+        let mut stream = self;
+        'calls: for _ in 0..MOST_CALLS {
+            let called = stream.read(buffer);
+            if !is_interrupted(&called) {
+                return called;
+            }
+        }
+        Err(io::Error::from(ErrorKind::Interrupted))
+    }
+
+    fn send(&self, bytes: &[u8]) -> io::Result<usize> {
+        let mut stream = self;
+        'calls: for _ in 0..MOST_CALLS {
+            let called = stream.write(bytes);
+            if !is_interrupted(&called) {
+                return called;
+            }
+        }
+        Err(io::Error::from(ErrorKind::Interrupted))
+    }
+
+    fn is_quiet(&self) -> bool {
+        is_quiet(self)
+    }
+
+    fn set_nonblocking(&self, nonblocking: bool) -> io::Result<()> {
+        self.set_nonblocking(nonblocking)
     }
 }
 

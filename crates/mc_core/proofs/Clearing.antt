@@ -2,32 +2,21 @@
 use Rattle.std.proofs.Common.{◌≡◌, ◌⊎◌, inl, inr, ℕ, ◌+◌, ◌<◌, ◌≤◌, ◌==◌, true, ◌&&◌, Option, Some, None, List, [], ◌∷◌, ◌++◌, length, map}
 use Rattle.std.proofs.Common.{slice_get, refl, ap, sym, subst, ◌∙◌, arith, length-append}
 use Rattle.std.proofs.lemmas.Bool.{cases_lt, and_parts, eqb-true, true_from_ne_false}
-use Rattle.std.proofs.lemmas.List.{append-nil, append_assoc, length-map}
-use Rattle.std.proofs.lemmas.Option.{get_or_from_slice_get}
+use Rattle.std.proofs.{lemmas.List.append-nil, lemmas.List.append_assoc, lemmas.List.length-map, lemmas.Option.get_or_from_slice_get}
 use Rattle.mc_protocol.specs.Legal.{class_of, is_legal, is_fit_for}
+use Rattle.mc_protocol.specs.{declared.reply.Class.Class, declared.reply.Reply.Reply, declared.request.Verb.Verb}
 use Rattle.mc_protocol.specs.declared.actor.Actor.TheVariants as actor
-use Rattle.mc_protocol.specs.declared.reply.Class.{Class}
 use Rattle.mc_protocol.specs.declared.reply.Class.TheVariants as class
-use Rattle.mc_protocol.specs.declared.reply.Reply.{Reply}
-use Rattle.mc_protocol.specs.declared.request.Verb.{Verb}
 use Rattle.mc_protocol.specs.declared.request.Verb.TheVariants as verb
 use Rattle.mc_script.specs.declared.step.Template.{Template}
 use Rattle.mc_code.specs.Calls.{IsCalling, MakesAll, exchange_of, template_of, no_template}
-use Rattle.mc_code.specs.Code.{Code, instructions_in}
-use Rattle.mc_code.specs.Paths.{entry_of, Slides}
-use Rattle.mc_code.specs.Runs.{Exchange}
-use Rattle.mc_code.specs.Standing.{StandsAt, ComesTo}
-use Rattle.mc_code.specs.States.{Tagged, State, initial_state, after_reply, ended}
+use Rattle.mc_code.specs.{Code.Code, Code.instructions_in, Paths.entry_of, Paths.Slides, Runs.Exchange, Standing.StandsAt, Standing.ComesTo, States.Tagged}
+use Rattle.mc_code.specs.{States.State, States.initial_state, States.after_reply, States.ended, declared.instr.Call.Call, declared.instr.Instr.Instr}
 use Rattle.mc_code.specs.Runs as runs
-use Rattle.mc_code.specs.declared.instr.Call.{Call}
-use Rattle.mc_code.specs.declared.instr.Instr.{Instr}
 use Rattle.mc_code.specs.declared.instr.Instr.TheVariants as instr
-use Rattle.mc_code.proofs.LookUps.{some_is}
-use Rattle.mc_code.proofs.RunLemmas.{run_sends, ended_at_halt}
-use Rattle.mc_code.proofs.Stopping.{StopsAt, one_stop}
-use Rattle.mc_verify.specs.Faults.{IsSound}
-use Rattle.mc_verify.specs.Clearing.{is_delete, is_delete_of, clears_at}
-use Rattle.mc_verify.specs.declared.refusal.RefusalKind.TheVariants as kind
+use Rattle.mc_code.proofs.{LookUps.some_is, RunLemmas.run_sends, RunLemmas.ended_at_halt, Stopping.StopsAt, Stopping.one_stop}
+use Rattle.mc_sound.specs.{Faults.IsSound, Clearing.is_delete, Clearing.is_delete_of, Clearing.clears_at}
+use Rattle.mc_sound.specs.declared.refusal_kind.RefusalKind.TheVariants as kind
 
 -- ---- an instruction that clears
 

@@ -1,26 +1,16 @@
 -- Whether a section has begun is decided in each world of sound code: a section comes to one outcome at last, its end or another.
 use Rattle.std.proofs.Common.{◌≡◌, ◌⊎◌, inl, inr, ℕ, zero, suc, ◌+◌, ◌≤◌, Bool, true, false, Option, Some, None, List, [], length, slice_get, refl, sym}
 use Rattle.std.proofs.Common.{subst, ◌∙◌, arith}
-use Rattle.mc_protocol.specs.declared.actor.Actor.{Actor}
-use Rattle.mc_protocol.specs.declared.actor.Actor.TheVariants as actor
-use Rattle.mc_protocol.specs.declared.fault.Fault.{Fault}
 use Rattle.std.proofs.lemmas.List.{append-nil}
-use Rattle.mc_code.specs.Calls.{MakesAll}
-use Rattle.mc_code.specs.declared.instr.Call.{Call}
-use Rattle.mc_code.specs.declared.instr.Instr.{Instr}
-use Rattle.mc_code.specs.declared.instr.Instr.TheVariants as instr
-use Rattle.mc_code.specs.Code.{Code, instructions_in}
-use Rattle.mc_code.specs.Paths.{Slides}
-use Rattle.mc_code.specs.RunLaws.{stops}
-use Rattle.mc_code.specs.Runs.{Exchange, met_by_send, after_slide}
-use Rattle.mc_code.specs.Standing.{StandsAt, ComesTo, IsRightAlong, no_variables}
+use Rattle.mc_protocol.specs.{declared.actor.Actor.Actor, declared.fault.Fault.Fault}
+use Rattle.mc_protocol.specs.declared.actor.Actor.TheVariants as actor
 use Rattle.mc_code.specs.States.{Tagged, is_number, State, Outcome, nothing_to_bind, outside, ended}
-use Rattle.mc_code.proofs.MadeCalls.{calls_stand}
-use Rattle.mc_code.proofs.RunLemmas.{run_slides}
-use Rattle.mc_code.proofs.Stopping.{stop_once}
-use Rattle.mc_verify.specs.Faults.{IsSound, IsStructured}
-use Rattle.mc_verify.proofs.Right.{sound_right, sound_structured}
-use Rattle.mc_flow.proofs.Structured.{structured_slides, structured_stands}
+use Rattle.mc_code.specs.{Calls.MakesAll, declared.instr.Call.Call, declared.instr.Instr.Instr, Code.Code, Code.instructions_in, Paths.Slides, RunLaws.stops}
+use Rattle.mc_code.specs.{Runs.Exchange, Runs.met_by_send, Runs.after_slide, Standing.StandsAt, Standing.ComesTo, Standing.IsRightAlong, Standing.no_variables}
+use Rattle.mc_code.specs.declared.instr.Instr.TheVariants as instr
+use Rattle.mc_code.proofs.{MadeCalls.calls_stand, RunLemmas.run_slides, Stopping.stop_once}
+use Rattle.mc_sound.specs.Faults.{IsSound, IsStructured}
+use Rattle.mc_sound.proofs.{Right.sound_right, Right.sound_structured, Structured.structured_slides, Structured.structured_stands}
 use Rattle.mc_core.specs.Worlds.{World, exchanges_of, HasEnded, IsBegun, IsDone}
 use Rattle.mc_core.proofs.StepLemmas.{MayBeRight, IsRightIn, begun_is_right}
 

@@ -1,28 +1,21 @@
 -- A call that begins sends a request without a fault: its section's turn, its key, its budget and the number that it names.
 use Rattle.std.proofs.Common.{◌≡◌, ◌⊎◌, inl, inr, ℕ, ◌<◌, ◌≤◌, nat_le, true, false, not, ◌&&◌, ◌||◌, None, List, [], ◌∷◌, ◌++◌, length, map}
 use Rattle.std.proofs.Common.{slice_index_or, refl, ap, ap₂, sym, subst, ◌∙◌, arith}
-use Rattle.std.specs.Option.{option_to_list}
 use Rattle.std.proofs.lemmas.Bool.{cases_lt, and_parts, leb-true, lt-leb, or_from, or_left, or_right, and_from, and_left, and_right, not_from_true}
 use Rattle.std.proofs.lemmas.List.{append-nil, length-map}
-use Rattle.mc_protocol.specs.declared.actor.Actor.{Actor}
-use Rattle.mc_protocol.specs.declared.actor.Actor.TheVariants as actor
+use Rattle.std.specs.Option.{option_to_list}
 use Rattle.mc_protocol.specs.declared.limits.TheConstants.{KEYS_LIMIT, REQUESTS_LIMIT}
-use Rattle.mc_protocol.specs.declared.reply.Reply.{Reply}
+use Rattle.mc_protocol.specs.{declared.actor.Actor.Actor, declared.reply.Reply.Reply}
+use Rattle.mc_protocol.specs.declared.actor.Actor.TheVariants as actor
 use Rattle.mc_code.specs.Calls.{IsCalling, exchange_of, template_of}
-use Rattle.mc_code.specs.Code.{Code, IsCode}
-use Rattle.mc_code.specs.Standing.{ComesTo}
-use Rattle.mc_code.specs.States.{Tagged, ended}
-use Rattle.mc_code.specs.declared.instr.Call.{Call}
+use Rattle.mc_code.specs.{Code.Code, Code.IsCode, Standing.ComesTo, States.Tagged, States.ended, declared.instr.Call.Call}
 use Rattle.mc_model.specs.History.{has_words, has_key, is_delete, are_answered, is_none_sent, is_history, fault_at, is_seen, key_count}
+use Rattle.mc_model.specs.{Notes.is_same_section, Sections.Sections, Sections.section_of, declared.sent.Sent.Sent}
 use Rattle.mc_model.specs.Next as next
-use Rattle.mc_model.specs.Notes.{is_same_section}
-use Rattle.mc_model.specs.Sections.{Sections, section_of}
-use Rattle.mc_model.specs.declared.sent.Sent.{Sent}
 use Rattle.mc_model.proofs.Faults.{fault_by_tests}
-use Rattle.mc_verify.specs.Faults.{IsSound}
-use Rattle.mc_core.specs.Histories.{sent_of, unanswered, sent_in, sections_of}
-use Rattle.mc_core.specs.Logs.{Log, new_log, request_of, IsRightLog}
-use Rattle.mc_core.specs.Worlds.{World, log_of, exchanges_of, BeginsIn, IsBegun, IsDone}
+use Rattle.mc_sound.specs.Faults.{IsSound}
+use Rattle.mc_core.specs.{Histories.sent_of, Histories.unanswered, Histories.sent_in, Histories.sections_of, Logs.Log, Logs.new_log, Logs.request_of}
+use Rattle.mc_core.specs.{Logs.IsRightLog, Worlds.World, Worlds.log_of, Worlds.exchanges_of, Worlds.BeginsIn, Worlds.IsBegun, Worlds.IsDone}
 use Rattle.mc_core.proofs.Clearing.{front_clears, done_cleared, calls_in_front, stands_in_front}
 use Rattle.mc_core.proofs.NextRequest.{request_words, key_there, few_keys, call_made, next_seen}
 use Rattle.mc_core.proofs.StepLemmas.{IsRightIn, IsRight, begun_is_right, still_new}

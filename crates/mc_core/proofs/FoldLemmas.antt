@@ -5,10 +5,8 @@ use Rattle.mc_protocol.specs.declared.actor.Actor.TheVariants as actor
 use Rattle.mc_code.specs.Code.{Code}
 use Rattle.mc_core.specs.declared.ending.Ending.TheVariants as ending
 use Rattle.mc_history.specs.declared.event.Event.{Event}
-use Rattle.mc_core.specs.declared.step_refusal.StepRefusal.{StepRefusal}
-use Rattle.mc_core.specs.Laws.{FoldsRepeat, FoldsOnce, EndsOnce}
-use Rattle.mc_core.specs.Steps.{IsRefused, IsStep, IsFold, ends, steps, skips, IsWorldOf}
-use Rattle.mc_core.specs.Worlds.{World, Noted, new_world}
+use Rattle.mc_core.specs.{declared.step_refusal.StepRefusal.StepRefusal, Laws.FoldsRepeat, Laws.FoldsOnce, Laws.EndsOnce, Steps.IsRefused, Steps.IsStep}
+use Rattle.mc_core.specs.{Steps.IsFold, Steps.ends, Steps.steps, Steps.skips, Steps.IsWorldOf, Worlds.World, Worlds.Noted, Worlds.new_world}
 use Rattle.mc_core.proofs.StepLemmas.{IsRight, step_right, step_grows, step_once, never_both}
 
 -- ---- what holds along a fold

@@ -1,31 +1,21 @@
 -- What a world holds at its start, and after an event that it takes: the branches begin once P is done, with what it leaves.
 use Rattle.std.proofs.Common.{◌≡◌, ◌≢◌, ◌⊎◌, inl, inr, ℕ, Option, None, List, [], refl, ap, sym, subst, ◌∙◌, false, ◌∷◌, ◌++◌}
 use Rattle.std.specs.List.{zip}
-use Rattle.mc_protocol.specs.Sections.{section_of}
-use Rattle.mc_protocol.specs.declared.actor.Actor.{Actor}
+use Rattle.mc_protocol.specs.{Sections.section_of, declared.actor.Actor.Actor, declared.sections.Sections.Sections}
 use Rattle.mc_protocol.specs.declared.actor.Actor.TheVariants as actor
-use Rattle.mc_protocol.specs.declared.sections.Sections.{Sections}
-use Rattle.mc_code.specs.Code.{Code}
-use Rattle.mc_code.specs.Standing.{ComesTo, Leaves, no_variables}
-use Rattle.mc_code.specs.States.{Tagged, State, ended}
-use Rattle.mc_machine.specs.Machine.{IsAt, StartsFrom, numbers_of}
-use Rattle.mc_machine.specs.declared.machine.Machine.{Machine}
+use Rattle.mc_code.specs.{Code.Code, Standing.ComesTo, Standing.Leaves, Standing.no_variables, States.Tagged, States.State, States.ended}
+use Rattle.mc_machine.specs.{Machine.IsAt, Machine.StartsFrom, Machine.numbers_of, declared.machine.Machine.Machine}
 use Rattle.mc_model.specs.Notes.{is_same_section}
 use Rattle.mc_history.specs.declared.event.Event.{Event}
 use Rattle.mc_core.specs.Fields.{replies_of, waiting_in, fault_in, world_in, held_in, Begins, LeavesNumbers, BranchesBegin, BranchesFollow, AfterOwn}
-use Rattle.mc_core.specs.Fields.{AllTake}
-use Rattle.mc_core.specs.Held.{Stands, HasMachine, IsHeldBy}
-use Rattle.mc_core.specs.Logs.{Log, new_log, exchanges_in}
-use Rattle.mc_core.specs.Steps.{ends, IsStep}
 use Rattle.mc_core.specs.Worlds.{World, Noted, new_world, log_of, exchanges_of, BeginsIn, IsBegun, IsDone, IsEnding, with_note, with_section}
-use Rattle.mc_core.specs.declared.ending.Ending.{Ending}
+use Rattle.mc_core.specs.{Fields.AllTake, Held.Stands, Held.HasMachine, Held.IsHeldBy, Logs.Log, Logs.new_log, Logs.exchanges_in, Steps.ends, Steps.IsStep}
+use Rattle.mc_core.specs.{declared.ending.Ending.Ending, declared.section.Section.Section}
 use Rattle.mc_core.specs.declared.ending.Ending.TheVariants as ending
-use Rattle.mc_core.specs.declared.section.Section.{Section}
-use Rattle.mc_core.proofs.FoldLemmas.{ends_once, fold_right, repeats}
 use Rattle.mc_core.proofs.HeldWorlds.{Shows, AllShow, shown_held, machine_stands, stands_in, ended_there, Ends, ends_as, After, Goes, Fields, shown}
-use Rattle.mc_core.proofs.LogLemmas.{each_section}
 use Rattle.mc_core.proofs.OwnSection.{log_is, before_own, own_after, other_replies}
 use Rattle.mc_core.proofs.StepLemmas.{MayBeRight, still_new, AsBefore, as_before}
+use Rattle.mc_core.proofs.{FoldLemmas.ends_once, FoldLemmas.fold_right, FoldLemmas.repeats, LogLemmas.each_section}
 
 pub is_done : (x : Ending) → (x ≡ ending.Done) ⊎ (x ≢ ending.Done)
 is_done ending.Done = inl refl

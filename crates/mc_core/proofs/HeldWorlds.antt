@@ -1,30 +1,18 @@
 -- What a section's fields say of a world: its log, how it stands, and where its machine stands.
 use Rattle.std.proofs.Common.{◌≡◌, ◌≢◌, ◌⊎◌, inl, inr, ℕ, true, Option, Some, None, List, slice_get, refl, ap, sym, subst, ◌∙◌}
-use Rattle.mc_protocol.specs.Sections.{section_of}
-use Rattle.mc_protocol.specs.declared.actor.Actor.{Actor}
+use Rattle.mc_protocol.specs.{Sections.section_of, declared.actor.Actor.Actor, declared.sections.Sections.Sections}
 use Rattle.mc_protocol.specs.declared.actor.Actor.TheVariants as actor
-use Rattle.mc_protocol.specs.declared.sections.Sections.{Sections}
-use Rattle.mc_code.specs.Code.{Code, instructions_in}
-use Rattle.mc_code.specs.Paths.{Slides}
-use Rattle.mc_code.specs.Runs.{Exchange}
-use Rattle.mc_code.specs.Standing.{ComesTo}
 use Rattle.mc_code.specs.States.{Tagged, State, ended}
-use Rattle.mc_code.specs.declared.instr.Instr.{Instr}
+use Rattle.mc_code.specs.{Code.Code, Code.instructions_in, Paths.Slides, Runs.Exchange, Standing.ComesTo, declared.instr.Instr.Instr}
 use Rattle.mc_code.specs.declared.instr.Instr.TheVariants as instr
-use Rattle.mc_code.proofs.LookUps.{some_is}
-use Rattle.mc_code.proofs.RunLemmas.{ended_at_halt}
-use Rattle.mc_code.proofs.Stopping.{StopsAt, one_stop}
-use Rattle.mc_machine.specs.Machine.{IsAt, actor_of, outstanding_of, waits_at}
-use Rattle.mc_machine.specs.declared.machine.Machine.{Machine}
-use Rattle.mc_core.specs.declared.ending.Ending.{Ending}
-use Rattle.mc_core.specs.declared.ending.Ending.TheVariants as ending
-use Rattle.mc_history.specs.declared.event.Event.{Event}
-use Rattle.mc_core.specs.declared.section.Section.{Section}
+use Rattle.mc_code.proofs.{LookUps.some_is, RunLemmas.ended_at_halt, Stopping.StopsAt, Stopping.one_stop}
+use Rattle.mc_machine.specs.{Machine.IsAt, Machine.actor_of, Machine.outstanding_of, Machine.waits_at, declared.machine.Machine.Machine}
 use Rattle.mc_core.specs.Fields.{fault_in, log_in, world_in, held_in, EndsAs, IsFree, IsKept}
 use Rattle.mc_core.specs.Held.{Held, Stands, HasMachine, IsHeldBy}
-use Rattle.mc_core.specs.Logs.{Log}
-use Rattle.mc_core.specs.Steps.{IsStep, IsWorldOf}
 use Rattle.mc_core.specs.Worlds.{World, Noted, log_of, exchanges_of, BeginsIn, HasEnded, IsBegun, IsDone, IsEnding}
+use Rattle.mc_core.specs.{declared.ending.Ending.Ending, declared.section.Section.Section, Logs.Log, Steps.IsStep, Steps.IsWorldOf}
+use Rattle.mc_core.specs.declared.ending.Ending.TheVariants as ending
+use Rattle.mc_history.specs.declared.event.Event.{Event}
 use Rattle.mc_core.proofs.StepLemmas.{begins_once}
 
 -- ---- fields that show a world

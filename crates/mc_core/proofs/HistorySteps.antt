@@ -1,41 +1,28 @@
 -- What is recorded of a fold spells its sections, and keeps the rules of a history.
 use Rattle.std.proofs.Common.{◌≡◌, inr, ◌<◌, true, None, List, [], ◌∷◌, ◌++◌, length, map, slice_index_or, refl, ap, sym, subst, ◌∙◌, arith, length-append}
-use Rattle.std.proofs.lemmas.Bool.{true_from_ne_false}
-use Rattle.std.proofs.lemmas.List.{append-nil, length-map, map-append, get_or_at}
-use Rattle.mc_protocol.specs.Legal.{is_fit_for}
-use Rattle.mc_protocol.specs.declared.actor.Actor.{Actor}
-use Rattle.mc_protocol.specs.declared.actor.Actor.TheVariants as actor
-use Rattle.mc_protocol.specs.declared.fault.Fault.{Fault}
+use Rattle.std.proofs.{lemmas.Bool.true_from_ne_false, lemmas.List.append-nil, lemmas.List.length-map, lemmas.List.map-append, lemmas.List.get_or_at}
 use Rattle.mc_protocol.specs.declared.limits.TheConstants.{REQUESTS_LIMIT}
-use Rattle.mc_protocol.specs.declared.reply.Reply.{Reply}
-use Rattle.mc_code.specs.Calls.{template_of}
-use Rattle.mc_code.specs.Code.{Code, IsCode}
-use Rattle.mc_code.specs.declared.instr.Call.{Call}
-use Rattle.mc_model.specs.History.{is_history}
+use Rattle.mc_protocol.specs.{Legal.is_fit_for, declared.actor.Actor.Actor, declared.fault.Fault.Fault, declared.reply.Reply.Reply}
+use Rattle.mc_protocol.specs.declared.actor.Actor.TheVariants as actor
+use Rattle.mc_code.specs.{Calls.template_of, Code.Code, Code.IsCode, declared.instr.Call.Call}
+use Rattle.mc_model.specs.Sections.{Sections, section_of, with_sent}
+use Rattle.mc_model.specs.{History.is_history, Notes.is_record, Notes.sections_in, declared.sent.Sent.Sent}
 use Rattle.mc_model.specs.Next as next
 use Rattle.mc_model.specs.Notes as recorded
-use Rattle.mc_model.specs.Notes.{is_record, sections_in}
-use Rattle.mc_model.specs.Sections.{Sections, section_of, with_sent}
 use Rattle.mc_model.specs.declared.note.Note.TheVariants as note
-use Rattle.mc_model.specs.declared.sent.Sent.{Sent}
 use Rattle.mc_model.proofs.Answering.{last_of-push, with_last_reply-push}
 use Rattle.mc_model.proofs.NoteFaults.{fault_by_sections, record_push, record_parts, nothing_noted, sections_noted}
-use Rattle.mc_verify.specs.Faults.{IsSound}
+use Rattle.mc_sound.specs.Faults.{IsSound}
 use Rattle.mc_history.specs.declared.event.Event.{Event}
 use Rattle.mc_history.specs.declared.event.Event.TheVariants as event
 use Rattle.mc_core.specs.declared.step_refusal.StepRefusal.TheVariants as refusal
 use Rattle.mc_core.specs.Histories.{begin_count, call_after, no_call, record_of, sent_of, unanswered, sent_in, sections_of}
-use Rattle.mc_core.specs.Laws.{IsRecorded, FoldsAreRecorded}
-use Rattle.mc_core.specs.Logs.{Log, call_of, calls_in, request_of, with_call, with_reply, with_fault}
-use Rattle.mc_core.specs.Steps.{Follows, IsStep}
-use Rattle.mc_core.specs.Worlds.{World, new_world, log_of, with_note, events_of}
+use Rattle.mc_core.specs.{Laws.IsRecorded, Laws.FoldsAreRecorded, Logs.Log, Logs.call_of, Logs.calls_in, Logs.request_of, Logs.with_call, Logs.with_reply}
+use Rattle.mc_core.specs.{Logs.with_fault, Steps.Follows, Steps.IsStep, Worlds.World, Worlds.new_world, Worlds.log_of, Worlds.with_note, Worlds.events_of}
 use Rattle.mc_core.proofs.FaultlessRequests.{section_is, idle_length, may_begin, begin_faultless}
-use Rattle.mc_core.proofs.FoldLemmas.{kept_along, new_is_right}
-use Rattle.mc_core.proofs.LogLemmas.{each_section, own_log}
 use Rattle.mc_core.proofs.NotedEvents.{AreNoted, noted_step, new_is_noted}
-use Rattle.mc_core.proofs.Recorded.{GrowsTo, record_grown, begun_all}
-use Rattle.mc_core.proofs.Safe.{few_calls}
-use Rattle.mc_core.proofs.StepLemmas.{IsRight, none_is, step_right}
+use Rattle.mc_core.proofs.{FoldLemmas.kept_along, FoldLemmas.new_is_right, LogLemmas.each_section, LogLemmas.own_log, Recorded.GrowsTo, Recorded.record_grown}
+use Rattle.mc_core.proofs.{Recorded.begun_all, Safe.few_calls, StepLemmas.IsRight, StepLemmas.none_is, StepLemmas.step_right}
 
 -- what holds along a fold in sound code
 pub record Holds (c : Code) (w : World) : Type 0 where

@@ -1,31 +1,19 @@
 -- Logs: right ones with their calls, longer ones, their events, and those of a world with one more note.
 use Rattle.std.proofs.Common.{◌≡◌, true, false, Option, Some, None, List, [], ◌∷◌, ◌++◌, All, map, refl, ap, sym, subst, ◌∙◌, ◌<◌, length, slice_get}
-use Rattle.std.specs.List.{flat_map}
-use Rattle.std.specs.Option.{option_to_list}
-use Rattle.std.proofs.lemmas.List.{append-nil, append_assoc}
-use Rattle.std.proofs.lemmas.List.Concat.{flat_map-append}
-use Rattle.std.proofs.lemmas.List.Elements.{All-nil, All-cons}
-use Rattle.std.proofs.lemmas.Option.{get_or_from_slice_get, slice_get_within}
-use Rattle.mc_protocol.specs.Legal.{is_fit_for}
-use Rattle.mc_protocol.specs.Sections.{section_of}
-use Rattle.mc_protocol.specs.declared.actor.Actor.{Actor}
-use Rattle.mc_protocol.specs.declared.actor.Actor.TheVariants as actor
-use Rattle.mc_protocol.specs.declared.fault.Fault.{Fault}
-use Rattle.mc_protocol.specs.declared.reply.Reply.{Reply}
+use Rattle.std.proofs.{lemmas.List.append-nil, lemmas.List.append_assoc, lemmas.List.Concat.flat_map-append, lemmas.List.Elements.All-nil}
+use Rattle.std.proofs.{lemmas.List.Elements.All-cons, lemmas.Option.get_or_from_slice_get, lemmas.Option.slice_get_within}
+use Rattle.std.specs.{List.flat_map, Option.option_to_list}
 use Rattle.mc_protocol.specs.declared.sections.Sections.{Sections}
+use Rattle.mc_protocol.specs.{Legal.is_fit_for, Sections.section_of, declared.actor.Actor.Actor, declared.fault.Fault.Fault, declared.reply.Reply.Reply}
+use Rattle.mc_protocol.specs.declared.actor.Actor.TheVariants as actor
 use Rattle.mc_code.specs.Calls.{IsCalling, MakesAll, exchange_of, template_of, no_template}
-use Rattle.mc_code.specs.Code.{Code}
-use Rattle.mc_code.specs.Runs.{Exchange, met_at, met_by_send}
-use Rattle.mc_code.specs.States.{Tagged, call, send_outcome}
-use Rattle.mc_code.specs.declared.instr.Call.{Call}
-use Rattle.mc_code.proofs.LookUps.{some_is}
-use Rattle.mc_code.proofs.StandingLemmas.{calls_open, template_is}
+use Rattle.mc_code.specs.{Code.Code, Runs.Exchange, Runs.met_at, Runs.met_by_send, States.Tagged, States.call, States.send_outcome, declared.instr.Call.Call}
+use Rattle.mc_code.proofs.{LookUps.some_is, StandingLemmas.calls_open, StandingLemmas.template_is}
 use Rattle.mc_model.specs.Notes.{is_same_section}
 use Rattle.mc_history.specs.declared.event.Event.{Event}
 use Rattle.mc_history.specs.declared.event.Event.TheVariants as event
 use Rattle.mc_core.specs.Logs.{Log, new_log, call_of, calls_in, events_of_pair, begin_of, events_in, exchanges_in, with_call, with_reply, with_fault}
-use Rattle.mc_core.specs.Logs.{IsNextCall, IsRightLog}
-use Rattle.mc_core.specs.Worlds.{World, log_of, with_note, with_section}
+use Rattle.mc_core.specs.{Logs.IsNextCall, Logs.IsRightLog, Worlds.World, Worlds.log_of, Worlds.with_note, Worlds.with_section}
 
 -- ---- right logs
 

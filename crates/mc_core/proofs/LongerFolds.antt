@@ -5,9 +5,7 @@ use Rattle.mc_protocol.specs.declared.actor.Actor.{Actor}
 use Rattle.mc_code.specs.Code.{Code}
 use Rattle.mc_history.specs.declared.event.Event.{Event}
 use Rattle.mc_core.specs.declared.step_refusal.StepRefusal.{StepRefusal}
-use Rattle.mc_core.specs.Held.{Held}
-use Rattle.mc_core.specs.Steps.{IsStep, IsRefused, IsFold}
-use Rattle.mc_core.specs.Worlds.{World, Noted, new_world}
+use Rattle.mc_core.specs.{Held.Held, Steps.IsStep, Steps.IsRefused, Steps.IsFold, Worlds.World, Worlds.Noted, Worlds.new_world}
 use Rattle.mc_core.proofs.FoldLemmas.{fold_step, fold_skip}
 
 pub taken : {X : Type 0} (c : Code) (xs : List Noted) (old new : World) (who : Actor) (e : Event) (skipped : ℕ) (r : Result X (StepRefusal × Event))

@@ -1,10 +1,8 @@
 -- Where machines stand.
 use Rattle.std.proofs.Common.{[], ◌∷◌, ◌++◌}
 use Rattle.mc_protocol.specs.declared.reply.Reply.{Reply}
-use Rattle.mc_code.specs.Calls.{exchange_of}
-use Rattle.mc_code.specs.Code.{Code}
-use Rattle.mc_machine.specs.Machine.{Stands, MayBeAnswered, IsAnswered}
-use Rattle.mc_machine.specs.declared.machine.Machine.{Machine}
+use Rattle.mc_code.specs.{Calls.exchange_of, Code.Code}
+use Rattle.mc_machine.specs.{Machine.Stands, Machine.MayBeAnswered, Machine.IsAnswered, declared.machine.Machine.Machine}
 
 -- a machine stands somewhere after a reply
 pub answered_stands : (c : Code) (m n : Machine) (reply : Reply) → Stands c m → MayBeAnswered c m reply → IsAnswered c m reply n

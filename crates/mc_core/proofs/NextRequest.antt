@@ -2,46 +2,29 @@
 use Rattle.std.proofs.Common.{◌≡◌, ◌⊎◌, inl, inr, ℕ, ◌+◌, ◌<◌, ◌≤◌, ◌==◌, nat_le, Bool, true, false, cond, ◌&&◌, ◌||◌, bytes_eq, Some, List, [], ◌∷◌, ◌++◌}
 use Rattle.std.proofs.Common.{length, map, slice_get, slice_index_or, refl, ap, sym, subst, ◌∙◌, arith, zero, suc, not, replicate, if◌then◌else◌}
 use Rattle.std.proofs.lemmas.Bool.{cases_lt, and_parts, or_left, or_right, eqb-true, leb-true, le-leb}
-use Rattle.std.proofs.lemmas.Cmp.{nat_list_cmp_total}
-use Rattle.std.proofs.lemmas.List.Sums.{AllPass-from_list_all}
-use Rattle.std.proofs.lemmas.Slice.Eq.{bytes_eq-Decides}
-use Rattle.std.specs.Cmp.Lexicographic.{slice_cmp}
+use Rattle.std.proofs.{lemmas.Cmp.nat_list_cmp_total, lemmas.List.Sums.AllPass-from_list_all, lemmas.Slice.Eq.bytes_eq-Decides}
+use Rattle.std.specs.{Cmp.Lexicographic.slice_cmp, List.AllPass, List.list_all, List.list_any, Ordering.nat_cmp}
 use Rattle.std.specs.FinSet as set
-use Rattle.std.specs.List.{AllPass, list_all, list_any}
-use Rattle.std.specs.Ordering.{nat_cmp}
-use Rattle.mc_protocol.specs.Decimals.{MAX_32}
-use Rattle.mc_protocol.specs.Fields.{fields_of}
-use Rattle.mc_protocol.specs.Names.{is_name, is_key}
-use Rattle.mc_protocol.specs.declared.actor.Actor.{Actor}
-use Rattle.mc_protocol.specs.declared.actor.Actor.TheVariants as actor
 use Rattle.mc_protocol.specs.declared.limits.TheConstants.{KEYS_LIMIT, KEY_BYTES_LIMIT, REPLY_BODY_LIMIT, SCRIPT_BODY_LIMIT}
-use Rattle.mc_protocol.specs.declared.reply.Reply.{Reply}
-use Rattle.mc_protocol.specs.declared.request.Fields.{Fields}
+use Rattle.mc_protocol.specs.{Decimals.MAX_32, Fields.fields_of, Names.is_name, Names.is_key, declared.actor.Actor.Actor, declared.reply.Reply.Reply}
+use Rattle.mc_protocol.specs.{declared.request.Fields.Fields, declared.request.Verb.Verb}
+use Rattle.mc_protocol.specs.declared.actor.Actor.TheVariants as actor
 use Rattle.mc_protocol.specs.declared.request.Fields.TheVariants as fields
-use Rattle.mc_protocol.specs.declared.request.Verb.{Verb}
 use Rattle.mc_protocol.specs.declared.request.Verb.TheVariants as verb
-use Rattle.mc_script.specs.ScriptWords.{is_body, are_body_bytes}
 use Rattle.mc_script.specs.Templates.{is_nothing, is_variable, is_amount, has_fields, IsTemplate}
-use Rattle.mc_script.specs.declared.step.Argument.{Argument}
+use Rattle.mc_script.specs.{ScriptWords.is_body, ScriptWords.are_body_bytes, declared.step.Argument.Argument, declared.step.Template.Template}
 use Rattle.mc_script.specs.declared.step.Argument.TheVariants as argument
-use Rattle.mc_script.specs.declared.step.Template.{Template}
 use Rattle.mc_code.specs.Calls.{IsCalling, exchange_of, template_of, no_template}
-use Rattle.mc_code.specs.Code.{Code, IsCode, instructions_in}
-use Rattle.mc_code.specs.NumberLaws.{Shows, IsShownIn, Holds}
-use Rattle.mc_code.specs.Runs.{Exchange}
-use Rattle.mc_code.specs.Standing.{BeginsAfter, Leaves, StandsAt, no_variables}
 use Rattle.mc_code.specs.States.{Tagged, call, with_argument, send_outcome, nothing, State, initial_state, wrong_kind, call_with, wanted_by, is_same}
-use Rattle.mc_code.specs.declared.instr.Call.{Call}
+use Rattle.mc_code.specs.{Code.Code, Code.IsCode, Code.instructions_in, NumberLaws.Shows, NumberLaws.IsShownIn, NumberLaws.Holds, Runs.Exchange}
+use Rattle.mc_code.specs.{Standing.BeginsAfter, Standing.Leaves, Standing.StandsAt, Standing.no_variables, declared.instr.Call.Call}
 use Rattle.mc_code.specs.declared.kind.Kind.TheVariants as kind
-use Rattle.mc_code.proofs.LookUps.{some_is}
-use Rattle.mc_code.proofs.Shown.{numbers_were_shown}
+use Rattle.mc_code.proofs.{LookUps.some_is, Shown.numbers_were_shown}
 use Rattle.mc_model.specs.History.{has_words, lacks_the_others, has_key, shows, shows_number, is_gets, is_cas, is_seen}
 use Rattle.mc_model.specs.declared.sent.Sent.{Sent}
 use Rattle.mc_model.proofs.Keys.{key_set}
-use Rattle.mc_core.specs.Histories.{sent_of, unanswered, sent_in}
-use Rattle.mc_core.specs.Logs.{request_of, Log, exchanges_in}
-use Rattle.mc_core.proofs.Clearing.{FrontClears}
-use Rattle.mc_core.proofs.LogLemmas.{call_inside, call_sent}
+use Rattle.mc_core.specs.{Histories.sent_of, Histories.unanswered, Histories.sent_in, Logs.request_of, Logs.Log, Logs.exchanges_in}
+use Rattle.mc_core.proofs.{Clearing.FrontClears, LogLemmas.call_inside, LogLemmas.call_sent}
 
 -- ---- words
 

@@ -1,27 +1,18 @@
 -- A section's notes are the events of its log: so they are few, and none comes after a fault.
 use Rattle.std.proofs.Common.{◌≡◌, ℕ, ◌+◌, ◌*◌, ◌≤◌, Option, Some, None, List, [], ◌∷◌, ◌++◌, length, map, refl, ap, ap₂, sym, subst, ◌∙◌, arith}
 use Rattle.std.proofs.Common.{if◌then◌else◌}
-use Rattle.std.specs.List.{flat_map}
-use Rattle.std.specs.Option.{option_to_list}
-use Rattle.std.proofs.lemmas.List.{append-nil}
-use Rattle.std.proofs.lemmas.List.Concat.{flat_map-append}
-use Rattle.mc_protocol.specs.declared.actor.Actor.{Actor}
+use Rattle.std.proofs.{lemmas.List.append-nil, lemmas.List.Concat.flat_map-append}
+use Rattle.std.specs.{List.flat_map, Option.option_to_list}
+use Rattle.mc_protocol.specs.{declared.actor.Actor.Actor, declared.fault.Fault.Fault, declared.reply.Reply.Reply}
 use Rattle.mc_protocol.specs.declared.actor.Actor.TheVariants as actor
-use Rattle.mc_protocol.specs.declared.fault.Fault.{Fault}
-use Rattle.mc_protocol.specs.declared.reply.Reply.{Reply}
 use Rattle.mc_protocol.proofs.FirstItems.{rest_is}
-use Rattle.mc_code.specs.Code.{Code}
-use Rattle.mc_code.specs.declared.instr.Call.{Call}
+use Rattle.mc_code.specs.{Code.Code, declared.instr.Call.Call}
 use Rattle.mc_history.specs.declared.event.Event.{Event}
 use Rattle.mc_history.specs.declared.event.Event.TheVariants as event
-use Rattle.mc_core.specs.Histories.{begin_count}
 use Rattle.mc_core.specs.Logs.{Log, events_of_pair, begin_of, call_of, calls_in, events_in}
-use Rattle.mc_core.specs.Safety.{IsSilentAfterFault}
-use Rattle.mc_core.specs.Steps.{IsStep, IsFold}
 use Rattle.mc_core.specs.Worlds.{World, Noted, new_world, log_of, event_of, events_of, with_note}
-use Rattle.mc_core.proofs.FoldLemmas.{kept_along}
-use Rattle.mc_core.proofs.LogLemmas.{each_section}
-use Rattle.mc_core.proofs.StepLemmas.{step_grows}
+use Rattle.mc_core.specs.{Histories.begin_count, Safety.IsSilentAfterFault, Steps.IsStep, Steps.IsFold}
+use Rattle.mc_core.proofs.{FoldLemmas.kept_along, LogLemmas.each_section, StepLemmas.step_grows}
 
 -- ---- the events of a log
 

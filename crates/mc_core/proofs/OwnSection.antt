@@ -1,34 +1,21 @@
 -- What an event does to its own section: to the log that the fields say, how it stands, and where its machine stands.
 use Rattle.std.proofs.Common.{◌≡◌, inr, false, Option, Some, None, List, [], ◌∷◌, ◌++◌, length, refl, ap, ap₂, sym, subst, ◌∙◌, arith, if◌then◌else◌}
+use Rattle.std.proofs.{lemmas.List.append-nil, lemmas.List.map-append, lemmas.List.Concat.flat_map-append}
 use Rattle.std.specs.List.{zip, flat_map}
-use Rattle.std.proofs.lemmas.List.{append-nil, map-append}
-use Rattle.std.proofs.lemmas.List.Concat.{flat_map-append}
-use Rattle.mc_protocol.specs.Sections.{section_of}
-use Rattle.mc_protocol.specs.declared.actor.Actor.{Actor}
-use Rattle.mc_protocol.specs.declared.fault.Fault.{Fault}
-use Rattle.mc_protocol.specs.declared.reply.Reply.{Reply}
 use Rattle.mc_protocol.specs.declared.sections.Sections.{Sections}
-use Rattle.mc_code.specs.Calls.{IsCalling, exchange_of}
-use Rattle.mc_code.specs.Code.{Code}
-use Rattle.mc_code.specs.Runs.{Exchange}
-use Rattle.mc_code.specs.States.{State}
-use Rattle.mc_code.specs.declared.instr.Call.{Call}
-use Rattle.mc_machine.specs.Machine.{IsAt}
-use Rattle.mc_machine.specs.declared.machine.Machine.{Machine}
+use Rattle.mc_protocol.specs.{Sections.section_of, declared.actor.Actor.Actor, declared.fault.Fault.Fault, declared.reply.Reply.Reply}
+use Rattle.mc_code.specs.{Calls.IsCalling, Calls.exchange_of, Code.Code, Runs.Exchange, States.State, declared.instr.Call.Call}
+use Rattle.mc_machine.specs.{Machine.IsAt, declared.machine.Machine.Machine}
 use Rattle.mc_model.specs.Notes.{is_same_section}
 use Rattle.mc_core.specs.declared.ending.Ending.TheVariants as ending
 use Rattle.mc_history.specs.declared.event.Event.{Event}
 use Rattle.mc_history.specs.declared.event.Event.TheVariants as event
-use Rattle.mc_core.specs.declared.section.Section.{Section}
 use Rattle.mc_core.specs.Fields.{reply_in, replies_of, waiting_in, fault_in, world_in, SameCalls, Takes, IsKept}
-use Rattle.mc_core.specs.Held.{Stands}
 use Rattle.mc_core.specs.Logs.{Log, exchanges_in, with_call, with_reply, with_fault}
-use Rattle.mc_core.specs.Steps.{Follows}
 use Rattle.mc_core.specs.Worlds.{World, Noted, log_of, with_note, event_of, events_of, exchanges_of, IsDone, IsEnding}
+use Rattle.mc_core.specs.{declared.section.Section.Section, Held.Stands, Steps.Follows}
 use Rattle.mc_core.proofs.HeldWorlds.{Goes, Shows, shown, machine_stands, has_machine, stands_in, Ends, ends_as}
-use Rattle.mc_core.proofs.LogLemmas.{own_log}
-use Rattle.mc_core.proofs.NotedEvents.{events_push, own_event}
-use Rattle.mc_core.proofs.StepLemmas.{begins_still, begun_still}
+use Rattle.mc_core.proofs.{LogLemmas.own_log, NotedEvents.events_push, NotedEvents.own_event, StepLemmas.begins_still, StepLemmas.begun_still}
 
 -- ---- replies with one more note
 

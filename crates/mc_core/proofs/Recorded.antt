@@ -1,10 +1,8 @@
 -- What is recorded of a world grows with it, by what is noted.
 use Rattle.std.proofs.Common.{◌≡◌, ℕ, ◌+◌, ◌<◌, ◌≤◌, List, [], ◌∷◌, ◌++◌, length, slice_index_or, refl, ap, ap₂, sym, ◌∙◌, arith}
-use Rattle.std.proofs.lemmas.List.{append-nil, append_assoc, get_or_append_left}
-use Rattle.std.proofs.lemmas.List.Concat.{flat_map-append}
+use Rattle.std.proofs.{lemmas.List.append-nil, lemmas.List.append_assoc, lemmas.List.get_or_append_left, lemmas.List.Concat.flat_map-append}
 use Rattle.mc_protocol.specs.declared.actor.Actor.{Actor}
-use Rattle.mc_code.specs.Code.{Code}
-use Rattle.mc_code.specs.declared.instr.Call.{Call}
+use Rattle.mc_code.specs.{Code.Code, declared.instr.Call.Call}
 use Rattle.mc_model.specs.declared.note.Note.TheVariants as note
 use Rattle.mc_history.specs.declared.event.Event.{Event}
 use Rattle.mc_history.specs.declared.event.Event.TheVariants as event

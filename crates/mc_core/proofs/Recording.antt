@@ -1,35 +1,22 @@
 -- How a world's history is recorded, note by note.
 use Rattle.std.proofs.Common.{◌≡◌, inl, inr, ℕ, ◌+◌, ◌<◌, ◌≤◌, ◌^◌, List, [], ◌∷◌, ◌++◌, All, length, map, take, drop, slice_index_or, refl, ap, sym}
 use Rattle.std.proofs.Common.{subst, ◌∙◌, arith}
-use Rattle.std.specs.List.{zip}
-use Rattle.std.specs.Option.{option_to_list}
-use Rattle.std.proofs.lemmas.List.{append-nil, take-append-drop, drop_more, take_more}
-use Rattle.std.proofs.lemmas.List.Elements.{All-nil}
-use Rattle.mc_protocol.specs.Sections.{section_of}
-use Rattle.mc_protocol.specs.declared.actor.Actor.{Actor}
+use Rattle.std.proofs.{lemmas.List.append-nil, lemmas.List.take-append-drop, lemmas.List.drop_more, lemmas.List.take_more, lemmas.List.Elements.All-nil}
+use Rattle.std.specs.{List.zip, Option.option_to_list}
+use Rattle.mc_protocol.specs.{Sections.section_of, declared.actor.Actor.Actor, declared.reply.Reply.Reply, declared.sections.Sections.Sections}
 use Rattle.mc_protocol.specs.declared.actor.Actor.TheVariants as actor
-use Rattle.mc_protocol.specs.declared.reply.Reply.{Reply}
-use Rattle.mc_protocol.specs.declared.sections.Sections.{Sections}
-use Rattle.mc_code.specs.Code.{Code, IsCode}
-use Rattle.mc_code.specs.declared.instr.Call.{Call}
+use Rattle.mc_code.specs.{Code.Code, Code.IsCode, declared.instr.Call.Call}
 use Rattle.mc_model.specs.Notes as recorded
 use Rattle.mc_model.specs.declared.note.Note.TheVariants as note
-use Rattle.mc_verify.specs.Faults.{IsSound}
+use Rattle.mc_sound.specs.Faults.{IsSound}
 use Rattle.mc_history.specs.declared.event.Event.{Event}
 use Rattle.mc_history.specs.declared.event.Event.TheVariants as event
-use Rattle.mc_core.specs.declared.section.Section.{Section}
 use Rattle.mc_core.specs.Fields.{replies_of, waiting_in, world_in, calls_of, note_in, noted_by, BeginsNamed, HaveRoom, AreBegun, CountsBegin}
-use Rattle.mc_core.specs.Histories.{begin_count, no_call, recorded_after, recorded_from}
-use Rattle.mc_core.specs.Logs.{call_of, calls_in, request_of}
-use Rattle.mc_core.specs.Worlds.{World, Noted, log_of, event_of}
-use Rattle.mc_core.proofs.FoldLemmas.{fold_right}
-use Rattle.mc_core.proofs.HeldWorlds.{Fields}
-use Rattle.mc_core.proofs.LogLemmas.{call_inside, calls_each}
-use Rattle.mc_core.proofs.NotedEvents.{fold_noted, own_event}
+use Rattle.mc_core.specs.{declared.section.Section.Section, Histories.begin_count, Histories.no_call, Histories.recorded_after, Histories.recorded_from}
+use Rattle.mc_core.specs.{Logs.call_of, Logs.calls_in, Logs.request_of, Worlds.World, Worlds.Noted, Worlds.log_of, Worlds.event_of}
 use Rattle.mc_core.proofs.Recorded.{begun_in, begun_append, begun_more, begun_first, begun_all, from_append}
-use Rattle.mc_core.proofs.Safe.{folds_within_room}
-use Rattle.mc_core.proofs.StepLemmas.{MayBeRight}
-use Rattle.mc_core.proofs.Taking.{logged}
+use Rattle.mc_core.proofs.{FoldLemmas.fold_right, HeldWorlds.Fields, LogLemmas.call_inside, LogLemmas.calls_each, NotedEvents.fold_noted, NotedEvents.own_event}
+use Rattle.mc_core.proofs.{Safe.folds_within_room, StepLemmas.MayBeRight, Taking.logged}
 
 -- ---- templates of calls
 

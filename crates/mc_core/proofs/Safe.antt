@@ -1,38 +1,25 @@
 -- A fold in sound code is safe, and within its room.
 use Rattle.std.proofs.Common.{◌≡◌, ◌⊎◌, inl, inr, ◌<◌, ◌≤◌, ◌^◌, Bool, true, false, if◌then◌else◌, List, [], ◌∷◌, ◌++◌, All, length, map, slice_index_or}
-use Rattle.std.proofs.Common.{refl, ap, sym, subst, arith}
-use Rattle.std.specs.List.{flat_map}
-use Rattle.std.specs.Option.{option_to_list}
-use Rattle.std.proofs.lemmas.List.Elements.{All-head, All-tail}
-use Rattle.mc_protocol.specs.declared.actor.Actor.{Actor}
+use Rattle.std.proofs.{Common.refl, Common.ap, Common.sym, Common.subst, Common.arith, lemmas.List.Elements.All-head, lemmas.List.Elements.All-tail}
+use Rattle.std.specs.{List.flat_map, Option.option_to_list}
+use Rattle.mc_protocol.specs.{declared.actor.Actor.Actor, declared.limits.TheConstants.REQUESTS_LIMIT, declared.reply.Reply.Reply}
 use Rattle.mc_protocol.specs.declared.actor.Actor.TheVariants as actor
-use Rattle.mc_protocol.specs.declared.limits.TheConstants.{REQUESTS_LIMIT}
-use Rattle.mc_protocol.specs.declared.reply.Reply.{Reply}
-use Rattle.mc_code.specs.Calls.{IsCalling, exchange_of, template_of}
-use Rattle.mc_code.specs.Code.{Code, section_of}
-use Rattle.mc_code.specs.Runs.{Exchange}
-use Rattle.mc_code.specs.Standing.{BeginsAfter, Leaves}
-use Rattle.mc_code.specs.States.{Tagged, nothing, initial_state}
-use Rattle.mc_code.specs.declared.instr.Call.{Call}
+use Rattle.mc_code.specs.{Calls.IsCalling, Calls.exchange_of, Calls.template_of, Code.Code, Code.section_of, Runs.Exchange, Standing.BeginsAfter}
+use Rattle.mc_code.specs.{Standing.Leaves, States.Tagged, States.nothing, States.initial_state, declared.instr.Call.Call}
 use Rattle.mc_code.proofs.MadeCalls.{calls_stand}
 use Rattle.mc_model.specs.Notes.{is_same_section}
-use Rattle.mc_flow.specs.Costs.{cost_along}
-use Rattle.mc_verify.specs.Faults.{IsSound}
-use Rattle.mc_flow.specs.declared.measure.Measure.TheVariants as measure
-use Rattle.mc_verify.proofs.Right.{sound_right}
+use Rattle.mc_sound.specs.{Costs.cost_along, Faults.IsSound}
+use Rattle.mc_sound.specs.declared.measure.Measure.TheVariants as measure
+use Rattle.mc_sound.proofs.Right.{sound_right}
 use Rattle.mc_history.specs.declared.event.Event.{Event}
 use Rattle.mc_history.specs.declared.event.Event.TheVariants as event
-use Rattle.mc_core.specs.Laws.{FoldsAreSafe, FoldsAreWithinRoom}
-use Rattle.mc_core.specs.Logs.{Log, calls_in, events_of_pair, begin_of, exchanges_in, IsRightLog}
 use Rattle.mc_core.specs.Safety.{IsSmallEvent, IsSmallNote, AreSmall, IsRightRun, RanRight, bytes_of_all}
-use Rattle.mc_core.specs.Worlds.{World, Noted, log_of, events_of, exchanges_of, IsBegun}
-use Rattle.mc_core.proofs.Sending.{admitted, log_within}
-use Rattle.mc_core.proofs.Deciding.{begun_or_not}
-use Rattle.mc_core.proofs.FoldLemmas.{fold_right}
-use Rattle.mc_core.proofs.LogLemmas.{call_sent, calls_each}
+use Rattle.mc_core.specs.{Laws.FoldsAreSafe, Laws.FoldsAreWithinRoom, Logs.Log, Logs.calls_in, Logs.events_of_pair, Logs.begin_of, Logs.exchanges_in}
+use Rattle.mc_core.specs.{Logs.IsRightLog, Worlds.World, Worlds.Noted, Worlds.log_of, Worlds.events_of, Worlds.exchanges_of, Worlds.IsBegun}
 use Rattle.mc_core.proofs.NotedEvents.{AreNoted, fold_noted, few_notes, silent}
 use Rattle.mc_core.proofs.SmallNumbers.{IsSmallState, AreSmallExchanges, run_small, initial_small, MayHave, text_within, sent_number}
 use Rattle.mc_core.proofs.StepLemmas.{IsRight, IsRightIn, MayBeRight, begun_is_right}
+use Rattle.mc_core.proofs.{Sending.admitted, Sending.log_within, Deciding.begun_or_not, FoldLemmas.fold_right, LogLemmas.call_sent, LogLemmas.calls_each}
 
 -- ---- small replies
 

@@ -1,19 +1,12 @@
 -- Worlds in which the same happened, by what their fields say.
 use Rattle.std.proofs.Common.{◌≡◌, ℕ, List, length, map, sym, subst, ap, ◌∙◌}
-use Rattle.std.specs.List.{zip}
 use Rattle.std.proofs.lemmas.Slice.Zip.{firsts-zip}
-use Rattle.mc_protocol.specs.Sections.{section_of}
-use Rattle.mc_protocol.specs.declared.actor.Actor.{Actor}
+use Rattle.std.specs.List.{zip}
+use Rattle.mc_protocol.specs.{Sections.section_of, declared.actor.Actor.Actor, declared.reply.Reply.Reply, declared.sections.Sections.Sections}
 use Rattle.mc_protocol.specs.declared.actor.Actor.TheVariants as actor
-use Rattle.mc_protocol.specs.declared.reply.Reply.{Reply}
-use Rattle.mc_protocol.specs.declared.sections.Sections.{Sections}
-use Rattle.mc_code.specs.Code.{Code}
-use Rattle.mc_code.specs.declared.instr.Call.{Call}
-use Rattle.mc_core.specs.declared.section.Section.{Section}
-use Rattle.mc_core.specs.Fields.{IsKept, HasSameLog, HaveSameLogs, log_in, replies_of, world_in}
-use Rattle.mc_core.specs.Logs.{Log}
-use Rattle.mc_core.specs.Steps.{IsFold, IsWorldOf}
-use Rattle.mc_core.specs.Worlds.{World, Noted, new_world, log_of}
+use Rattle.mc_code.specs.{Code.Code, declared.instr.Call.Call}
+use Rattle.mc_core.specs.{declared.section.Section.Section, Fields.IsKept, Fields.HasSameLog, Fields.HaveSameLogs, Fields.log_in, Fields.replies_of}
+use Rattle.mc_core.specs.{Fields.world_in, Logs.Log, Steps.IsFold, Steps.IsWorldOf, Worlds.World, Worlds.Noted, Worlds.new_world, Worlds.log_of}
 use Rattle.mc_core.proofs.FoldLemmas.{all_noted, folds_once}
 
 same_log : (ns ms : List Noted) (who : Actor) (s t : Section) → HasSameLog s t → ns ≡ ms → log_in ns who s ≡ log_in ms who t

@@ -1,36 +1,22 @@
 -- What the sections of a right world have sent: calls of paths, within the budgets, which find the flags as they need them in every merge.
 use Rattle.std.proofs.Common.{◌≡◌, ◌⊎◌, inl, inr, ℕ, ◌<◌, ◌≤◌, Option, Some, None, List, [], ◌∷◌, ◌++◌, map, refl, ap, sym, subst, ◌∙◌, arith}
-use Rattle.std.proofs.lemmas.Bool.{cases_lt}
-use Rattle.std.proofs.lemmas.List.{append-nil, append_assoc, map-append}
-use Rattle.std.proofs.lemmas.Option.{get_or_from_slice_get}
+use Rattle.std.proofs.{lemmas.Bool.cases_lt, lemmas.List.append-nil, lemmas.List.append_assoc, lemmas.List.map-append, lemmas.Option.get_or_from_slice_get}
 use Rattle.std.specs.Option.{option_to_list}
-use Rattle.mc_protocol.specs.Merge.{IsMerge}
-use Rattle.mc_protocol.specs.declared.actor.Actor.{Actor}
+use Rattle.mc_protocol.specs.{Merge.IsMerge, declared.actor.Actor.Actor, declared.reply.Reply.Reply}
 use Rattle.mc_protocol.specs.declared.actor.Actor.TheVariants as actor
-use Rattle.mc_protocol.specs.declared.reply.Reply.{Reply}
 use Rattle.mc_protocol.proofs.Merges.{MergeBegins, merge_first}
 use Rattle.mc_script.specs.declared.step.Template.{Template}
-use Rattle.mc_code.specs.Calls.{IsCalling, MakesAll, exchange_of, template_of, no_template, calls_of, Opens}
-use Rattle.mc_code.specs.Code.{Code, section_of, instructions_in}
-use Rattle.mc_code.specs.Paths.{IsComplete}
+use Rattle.mc_code.specs.{Calls.IsCalling, Calls.MakesAll, Calls.exchange_of, Calls.template_of, Calls.no_template, Calls.calls_of, Calls.Opens, Code.Code}
+use Rattle.mc_code.specs.{Code.section_of, Code.instructions_in, Paths.IsComplete, RunLaws.edges_of, Runs.Exchange, States.Tagged, declared.instr.Call.Call}
 use Rattle.mc_code.specs.Paths as path
-use Rattle.mc_code.specs.RunLaws.{edges_of}
-use Rattle.mc_code.specs.Runs.{Exchange}
-use Rattle.mc_code.specs.States.{Tagged}
-use Rattle.mc_code.specs.declared.instr.Call.{Call}
-use Rattle.mc_code.proofs.RunLemmas.{ends_complete}
-use Rattle.mc_code.proofs.StandingLemmas.{calls_open}
-use Rattle.mc_flow.specs.Costs.{cost_along, bound_of}
-use Rattle.mc_verify.specs.Faults.{IsSound, MayExceed}
-use Rattle.mc_flow.specs.Flags.{IsAdmitted, all_clear}
-use Rattle.mc_verify.specs.Laws.{MaySend}
-use Rattle.mc_flow.specs.declared.measure.Measure.{Measure}
-use Rattle.mc_flow.specs.declared.measure.Measure.TheVariants as measure
-use Rattle.mc_verify.specs.declared.refusal.RefusalKind.TheVariants as kind
-use Rattle.mc_verify.proofs.Sent.{sent_admitted}
+use Rattle.mc_code.proofs.{RunLemmas.ends_complete, StandingLemmas.calls_open}
+use Rattle.mc_sound.specs.{Costs.cost_along, Costs.bound_of, Flags.IsAdmitted, Flags.all_clear, declared.measure.Measure.Measure, Faults.IsSound}
+use Rattle.mc_sound.specs.{Faults.MayExceed, Laws.MaySend}
+use Rattle.mc_sound.specs.declared.measure.Measure.TheVariants as measure
+use Rattle.mc_sound.specs.declared.refusal_kind.RefusalKind.TheVariants as kind
+use Rattle.mc_sound.proofs.Sent.{sent_admitted}
 use Rattle.mc_core.specs.Logs.{Log, call_of, calls_in, answered_in, exchanges_in, IsNextCall, IsRightLog, new_log}
-use Rattle.mc_core.specs.Safety.{AreSentBy, AreAdmitted}
-use Rattle.mc_core.specs.Worlds.{World, log_of, exchanges_of, IsDone}
+use Rattle.mc_core.specs.{Safety.AreSentBy, Safety.AreAdmitted, Worlds.World, Worlds.log_of, Worlds.exchanges_of, Worlds.IsDone}
 use Rattle.mc_core.proofs.StepLemmas.{MayBeRight, IsRight}
 
 -- ---- templates of calls

@@ -1,29 +1,20 @@
 -- The numbers of calls are as long as their templates allow, where each number that was shown has at most 64 bits.
 use Rattle.std.proofs.Common.{◌≡◌, ℕ, zero, suc, ◌<◌, ◌≤◌, ◌^◌, Bool, true, false, Some, List, [], ◌∷◌, length, decimal, replicate, slice_index_or}
 use Rattle.std.proofs.Common.{slice_set, refl, ap, arith, length-append, if◌then◌else◌}
-use Rattle.std.specs.Fmt.{digits}
-use Rattle.std.specs.List.{concat}
 use Rattle.std.proofs.lemmas.Fmt.{length-decimal-le}
-use Rattle.mc_protocol.specs.Decimals.{MAX_64}
-use Rattle.mc_protocol.specs.Fields.{fields_of}
-use Rattle.mc_protocol.specs.Texts.{after_key, request_text}
-use Rattle.mc_protocol.specs.declared.reply.Reply.{Reply}
-use Rattle.mc_protocol.specs.declared.reply.Reply.TheVariants as reply
+use Rattle.std.specs.{Fmt.digits, List.concat}
 use Rattle.mc_protocol.specs.declared.request.Fields.{Fields}
+use Rattle.mc_protocol.specs.{Decimals.MAX_64, Fields.fields_of, Texts.after_key, Texts.request_text, declared.reply.Reply.Reply}
+use Rattle.mc_protocol.specs.declared.reply.Reply.TheVariants as reply
 use Rattle.mc_protocol.specs.declared.request.Fields.TheVariants as fields
-use Rattle.mc_script.specs.declared.step.Argument.{Argument}
+use Rattle.mc_script.specs.{declared.step.Argument.Argument, declared.step.Template.Template}
 use Rattle.mc_script.specs.declared.step.Argument.TheVariants as argument
-use Rattle.mc_script.specs.declared.step.Template.{Template}
-use Rattle.mc_code.specs.Code.{Code}
-use Rattle.mc_code.specs.Requests.{request_with}
 use Rattle.mc_code.specs.Runs.{Exchange, IsRun, rests, slides, sends, after_slide}
-use Rattle.mc_code.specs.Standing.{no_variables}
 use Rattle.mc_code.specs.States.{Tagged, nothing, State, initial_state, is_number, shown_of, after_bind, call, wrong_kind, call_with, with_argument}
-use Rattle.mc_code.specs.States.{wanted_by, is_same}
-use Rattle.mc_code.specs.declared.instr.Instr.{Instr}
+use Rattle.mc_code.specs.{Code.Code, Requests.request_with, Standing.no_variables, States.wanted_by, States.is_same, declared.instr.Instr.Instr}
 use Rattle.mc_code.specs.declared.instr.Instr.TheVariants as instr
 use Rattle.mc_code.specs.declared.kind.Kind.TheVariants as kind
-use Rattle.mc_flow.specs.Costs.{longest_number}
+use Rattle.mc_sound.specs.Costs.{longest_number}
 use Rattle.mc_core.specs.Safety.{IsSmallReply}
 
 -- ---- states

@@ -1,25 +1,18 @@
 -- Steps keep worlds right, and lead to one world.
 use Rattle.std.proofs.Common.{◌≡◌, ◌≢◌, ◌⊎◌, inl, inr, false, Option, Some, None, List, [], ◌∷◌, ◌++◌, refl, ap, sym, subst, ◌∙◌}
 use Rattle.std.proofs.lemmas.Bool.{true_from_ne_false}
-use Rattle.mc_protocol.specs.Legal.{is_fit_for}
-use Rattle.mc_protocol.specs.declared.actor.Actor.{Actor}
+use Rattle.mc_protocol.specs.{Legal.is_fit_for, declared.actor.Actor.Actor}
 use Rattle.mc_protocol.specs.declared.actor.Actor.TheVariants as actor
-use Rattle.mc_code.specs.Calls.{IsCalling, template_of}
-use Rattle.mc_code.specs.Code.{Code}
-use Rattle.mc_code.specs.Runs.{Exchange}
 use Rattle.mc_code.specs.Standing.{BeginsAfter, ComesTo, Leaves, no_variables}
-use Rattle.mc_code.specs.States.{Tagged, ended}
-use Rattle.mc_code.specs.declared.instr.Call.{Call}
-use Rattle.mc_code.proofs.LookUps.{some_is}
-use Rattle.mc_code.proofs.StandingLemmas.{leaves_once, calls_once}
+use Rattle.mc_code.specs.{Calls.IsCalling, Calls.template_of, Code.Code, Runs.Exchange, States.Tagged, States.ended, declared.instr.Call.Call}
+use Rattle.mc_code.proofs.{LookUps.some_is, StandingLemmas.leaves_once, StandingLemmas.calls_once}
 use Rattle.mc_model.specs.Notes.{is_same_section}
 use Rattle.mc_history.specs.declared.event.Event.{Event}
 use Rattle.mc_history.specs.declared.event.Event.TheVariants as event
-use Rattle.mc_core.specs.declared.step_refusal.StepRefusal.{StepRefusal}
-use Rattle.mc_core.specs.declared.step_refusal.StepRefusal.TheVariants as refusal
 use Rattle.mc_core.specs.Logs.{Log, new_log, events_in, with_call, with_reply, with_fault, IsRightLog}
-use Rattle.mc_core.specs.Steps.{IsRefused, IsNext, Follows, IsStep}
 use Rattle.mc_core.specs.Worlds.{World, log_of, with_note, exchanges_of, BeginsIn, IsBegun, IsDone}
+use Rattle.mc_core.specs.{declared.step_refusal.StepRefusal.StepRefusal, Steps.IsRefused, Steps.IsNext, Steps.Follows, Steps.IsStep}
+use Rattle.mc_core.specs.declared.step_refusal.StepRefusal.TheVariants as refusal
 use Rattle.mc_core.proofs.LogLemmas.{own_log, each_section, new_is_right, call_is_right, reply_is_right, fault_is_right, events_with_call}
 use Rattle.mc_core.proofs.LogLemmas.{events_with_reply, events_with_fault}
 

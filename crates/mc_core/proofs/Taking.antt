@@ -1,46 +1,28 @@
 -- What a world's step knows: what its fields must be for an event to be taken, what is against it, and what they keep.
 use Rattle.std.proofs.Common.{◌≡◌, ◌≢◌, ◌⊎◌, inl, inr, ◌<◌, Option, Some, None, List, [], ◌∷◌, ◌++◌, length, map, refl, ap, sym, subst, ◌∙◌, arith}
 use Rattle.std.proofs.Common.{length-append, ℕ, ◌≤◌, IfSome}
-use Rattle.std.proofs.lemmas.Bool.{true_from_ne_false}
 use Rattle.std.proofs.lemmas.List.{append-nil, length-map}
-use Rattle.std.proofs.lemmas.List.Elements.{All-push}
-use Rattle.std.proofs.lemmas.Slice.Zip.{length-zip}
-use Rattle.std.specs.Option.{option_to_list}
-use Rattle.std.specs.Vec.{vec_len, vec_capacity}
-use Rattle.mc_protocol.specs.Legal.{is_fit_for}
-use Rattle.mc_protocol.specs.Sections.{section_of}
-use Rattle.mc_protocol.specs.declared.actor.Actor.{Actor}
-use Rattle.mc_protocol.specs.declared.actor.Actor.TheVariants as actor
-use Rattle.mc_protocol.specs.declared.reply.Reply.{Reply}
+use Rattle.std.proofs.{lemmas.Bool.true_from_ne_false, lemmas.List.Elements.All-push, lemmas.Slice.Zip.length-zip}
+use Rattle.std.specs.{Option.option_to_list, Vec.vec_len, Vec.vec_capacity}
 use Rattle.mc_protocol.specs.declared.sections.Sections.{Sections}
-use Rattle.mc_code.specs.Calls.{IsCalling, template_of}
-use Rattle.mc_code.specs.Code.{Code, IsCode}
-use Rattle.mc_code.specs.Standing.{ComesTo}
-use Rattle.mc_code.specs.States.{ended}
-use Rattle.mc_code.specs.declared.instr.Call.{Call}
-use Rattle.mc_machine.specs.Machine.{actor_of, outstanding_of}
-use Rattle.mc_machine.specs.declared.machine.Machine.{Machine}
-use Rattle.mc_verify.specs.Faults.{IsSound}
+use Rattle.mc_protocol.specs.{Legal.is_fit_for, Sections.section_of, declared.actor.Actor.Actor, declared.reply.Reply.Reply}
+use Rattle.mc_protocol.specs.declared.actor.Actor.TheVariants as actor
+use Rattle.mc_code.specs.{Calls.IsCalling, Calls.template_of, Code.Code, Code.IsCode, Standing.ComesTo, States.ended, declared.instr.Call.Call}
+use Rattle.mc_machine.specs.{Machine.actor_of, Machine.outstanding_of, declared.machine.Machine.Machine}
+use Rattle.mc_sound.specs.Faults.{IsSound}
 use Rattle.mc_history.specs.declared.event.Event.{Event}
 use Rattle.mc_history.specs.declared.event.Event.TheVariants as event
 use Rattle.mc_core.specs.Fields.{replies_of, waiting_in, log_in, world_in, IsKept, IsFree, NamesATemplate, MayTake, Takes, SameCalls, LeavesAfter}
 use Rattle.mc_core.specs.Fields.{BranchesBegin, BranchesFollow, AfterOwn, AllTake, held_in, AreKept, refusal_in, MayStep}
-use Rattle.mc_core.specs.Held.{Stands, HasMachine, Held, IsHeldBy}
-use Rattle.mc_core.specs.Logs.{Log, call_of}
-use Rattle.mc_core.specs.Safety.{IsSmallEvent, IsSmallNote}
-use Rattle.mc_core.specs.Steps.{IsStep, IsRefused}
 use Rattle.mc_core.specs.Worlds.{World, Noted, log_of, with_note, with_section, exchanges_of, IsEnding}
-use Rattle.mc_core.specs.declared.ending.Ending.{Ending}
+use Rattle.mc_core.specs.{Held.Stands, Held.HasMachine, Held.Held, Held.IsHeldBy, Logs.Log, Logs.call_of, Safety.IsSmallEvent, Safety.IsSmallNote, Steps.IsStep}
+use Rattle.mc_core.specs.{Steps.IsRefused, declared.ending.Ending.Ending, declared.section.Section.Section, declared.step_refusal.StepRefusal.StepRefusal}
 use Rattle.mc_core.specs.declared.ending.Ending.TheVariants as ending
-use Rattle.mc_core.specs.declared.section.Section.{Section}
-use Rattle.mc_core.specs.declared.step_refusal.StepRefusal.{StepRefusal}
 use Rattle.mc_core.specs.declared.step_refusal.StepRefusal.TheVariants as refusal
 use Rattle.mc_core.proofs.HeldSteps.{leaves_numbers, is_done, held_after}
 use Rattle.mc_core.proofs.HeldWorlds.{Fields, Goes, Shows, shown, machine_stands, has_machine}
-use Rattle.mc_core.proofs.LogLemmas.{each_section, call_inside}
 use Rattle.mc_core.proofs.OwnSection.{before_own, own_after, own_replies, other_replies}
-use Rattle.mc_core.proofs.Refusals.{refused_rightly, taken_rightly}
-use Rattle.mc_core.proofs.Safe.{folds_within_room}
+use Rattle.mc_core.proofs.{LogLemmas.each_section, LogLemmas.call_inside, Refusals.refused_rightly, Refusals.taken_rightly, Safe.folds_within_room}
 
 -- ---- templates
 

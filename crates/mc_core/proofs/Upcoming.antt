@@ -1,28 +1,16 @@
 -- The call that a section may begin.
 use Rattle.std.proofs.Common.{◌≡◌, ◌↔◌, ◌<◌, Option, Some, None, IfSome, List, length, refl, ap, sym, subst, ◌∙◌}
-use Rattle.mc_protocol.specs.Sections.{section_of}
-use Rattle.mc_protocol.specs.declared.actor.Actor.{Actor}
-use Rattle.mc_protocol.specs.declared.sections.Sections.{Sections}
-use Rattle.mc_code.specs.Calls.{IsCalling}
-use Rattle.mc_code.specs.Code.{Code}
-use Rattle.mc_code.specs.Runs.{Exchange}
-use Rattle.mc_code.specs.Standing.{ComesTo}
-use Rattle.mc_code.specs.States.{Tagged, State, ended}
-use Rattle.mc_code.specs.declared.instr.Call.{Call}
+use Rattle.mc_protocol.specs.{Sections.section_of, declared.actor.Actor.Actor, declared.sections.Sections.Sections}
+use Rattle.mc_code.specs.{Calls.IsCalling, Code.Code, Runs.Exchange, Standing.ComesTo, States.Tagged, States.State, States.ended, declared.instr.Call.Call}
 use Rattle.mc_code.proofs.LookUps.{some_is}
 use Rattle.mc_machine.specs.Machine as machines
 use Rattle.mc_machine.specs.declared.machine.Machine.{Machine}
 use Rattle.mc_core.specs.declared.ending.Ending.TheVariants as ending
 use Rattle.mc_history.specs.declared.event.Event.TheVariants as event
-use Rattle.mc_core.specs.declared.section.Section.{Section}
-use Rattle.mc_core.specs.declared.step_refusal.StepRefusal.{StepRefusal}
 use Rattle.mc_core.specs.Fields.{GoesOn, IsUpcoming, MayTake, held_in, world_in}
-use Rattle.mc_core.specs.Held.{Held, Stands}
-use Rattle.mc_core.specs.Steps.{IsNext, IsRefused, MayBegin}
-use Rattle.mc_core.specs.Worlds.{World, Noted, exchanges_of, IsEnding}
-use Rattle.mc_core.proofs.LogLemmas.{call_inside}
-use Rattle.mc_core.proofs.HeldWorlds.{Goes, shown, machine_stands}
-use Rattle.mc_core.proofs.StepLemmas.{next_once}
+use Rattle.mc_core.specs.{declared.section.Section.Section, declared.step_refusal.StepRefusal.StepRefusal, Held.Held, Held.Stands, Steps.IsNext}
+use Rattle.mc_core.specs.{Steps.IsRefused, Steps.MayBegin, Worlds.World, Worlds.Noted, Worlds.exchanges_of, Worlds.IsEnding}
+use Rattle.mc_core.proofs.{LogLemmas.call_inside, HeldWorlds.Goes, HeldWorlds.shown, HeldWorlds.machine_stands, StepLemmas.next_once}
 
 -- ---- of a machine
 

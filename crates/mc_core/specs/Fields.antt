@@ -6,24 +6,21 @@ use Rattle.mc_protocol.specs.{Legal.is_fit_for, Sections.section_of}
 use Rattle.mc_protocol.specs.declared.{actor.Actor.Actor, fault.Fault.Fault, limits.TheConstants.REQUESTS_LIMIT, reply.Reply.Reply}
 use Rattle.mc_protocol.specs.declared.sections.Sections.{Sections}
 use Rattle.mc_protocol.specs.declared.actor.Actor.TheVariants as actor
-use Rattle.mc_code.specs.Calls.{IsCalling, template_of}
+use Rattle.mc_code.specs.{Calls.IsCalling, Calls.template_of, States.Tagged, States.State, States.ended, declared.instr.Call.Call}
 use Rattle.mc_code.specs.{Code.Code, Runs.Exchange, Standing.ComesTo}
-use Rattle.mc_code.specs.States.{Tagged, State, ended}
-use Rattle.mc_code.specs.declared.instr.Call.{Call}
 use Rattle.mc_machine.specs.Machine as machines
 use Rattle.mc_machine.specs.declared.machine.Machine.{Machine}
 use Rattle.mc_model.specs.Notes as recorded
 use Rattle.mc_model.specs.declared.note.Note.{Note}
 use Rattle.mc_model.specs.declared.note.Note.TheVariants as note
 use Rattle.mc_core.specs.declared.{ending.Ending.Ending, section.Section.Section, step_refusal.StepRefusal.StepRefusal}
+use Rattle.mc_core.specs.Worlds.{World, Noted, event_of, events_of, with_section}
+use Rattle.mc_core.specs.{Histories.begin_count, Histories.no_call, Logs.Log, Logs.request_of}
 use Rattle.mc_core.specs.declared.ending.Ending.TheVariants as ending
 use Rattle.mc_history.specs.declared.event.Event.{Event}
 use Rattle.mc_history.specs.declared.event.Event.TheVariants as event
 use Rattle.mc_core.specs.declared.step_refusal.StepRefusal.TheVariants as refusal
 use Rattle.mc_core.specs.{Held.Held, Safety.AreSmall, Steps.IsAgainst}
-use Rattle.mc_core.specs.Histories.{begin_count, no_call}
-use Rattle.mc_core.specs.Logs.{Log, request_of}
-use Rattle.mc_core.specs.Worlds.{World, Noted, event_of, events_of, with_section}
 
 -- ---- what is seen
 

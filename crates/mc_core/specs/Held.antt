@@ -1,15 +1,11 @@
 -- What a world holds beside its logs and its notes: how each section stands, and the machines of the sections that have begun.
 use Rattle.std.specs.Prelude.{◌≡◌, ◌≢◌, ◌⊎◌, Option, Some, None, List}
-use Rattle.mc_protocol.specs.Sections.{section_of}
-use Rattle.mc_protocol.specs.declared.{actor.Actor.Actor, sections.Sections.Sections}
-use Rattle.mc_code.specs.Code.{Code}
-use Rattle.mc_code.specs.States.{Tagged, State}
-use Rattle.mc_machine.specs.Machine.{IsAt, actor_of, outstanding_of}
-use Rattle.mc_machine.specs.declared.machine.Machine.{Machine}
-use Rattle.mc_core.specs.declared.ending.Ending.{Ending}
-use Rattle.mc_core.specs.declared.ending.Ending.TheVariants as ending
-use Rattle.mc_core.specs.Steps.{IsWorldOf}
+use Rattle.mc_protocol.specs.{Sections.section_of, declared.actor.Actor.Actor, declared.sections.Sections.Sections}
+use Rattle.mc_code.specs.{Code.Code, States.Tagged, States.State}
+use Rattle.mc_machine.specs.{Machine.IsAt, Machine.actor_of, Machine.outstanding_of, declared.machine.Machine.Machine}
 use Rattle.mc_core.specs.Worlds.{World, log_of, exchanges_of, BeginsIn, IsEnding}
+use Rattle.mc_core.specs.{declared.ending.Ending.Ending, Steps.IsWorldOf}
+use Rattle.mc_core.specs.declared.ending.Ending.TheVariants as ending
 
 pub record Held : Type 0 where
   pub world : World

@@ -3,13 +3,10 @@ use Rattle.std.specs.Prelude.{◌≡◌, ℕ, ◌+◌, ◌*◌, ◌≤◌, true,
 use Rattle.mc_protocol.specs.declared.{actor.Actor.Actor, limits.TheConstants.REQUESTS_LIMIT}
 use Rattle.mc_code.specs.Code.{Code, IsCode}
 use Rattle.mc_model.specs.Notes.{is_record, sections_in}
-use Rattle.mc_verify.specs.Faults.{IsSound}
-use Rattle.mc_core.specs.declared.ending.Ending.{Ending}
+use Rattle.mc_sound.specs.Faults.{IsSound}
 use Rattle.mc_core.specs.Histories.{record_of, sections_of}
-use Rattle.mc_core.specs.Logs.{calls_in}
-use Rattle.mc_core.specs.Safety.{AreSmall, IsSafe}
-use Rattle.mc_core.specs.Steps.{IsFold, IsWorldOf}
 use Rattle.mc_core.specs.Worlds.{World, Noted, new_world, log_of, IsEnding}
+use Rattle.mc_core.specs.{declared.ending.Ending.Ending, Logs.calls_in, Safety.AreSmall, Safety.IsSafe, Steps.IsFold, Steps.IsWorldOf}
 
 -- the fold of the notes of a fold is the same world, and none of them is refused
 abbrev pub FoldsRepeat : Type 0

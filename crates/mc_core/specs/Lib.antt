@@ -9,8 +9,8 @@ pub use Rattle.mc_protocol.specs.Spelling
 pub use Rattle.mc_code.specs.Calls
 pub use Rattle.mc_code.specs.Code
 pub use Rattle.mc_code.specs.Standing
-pub use Rattle.mc_verify.specs.Faults as CodeFaults
-pub use Rattle.mc_flow.specs.Flags
+pub use Rattle.mc_sound.specs.Faults as CodeFaults
+pub use Rattle.mc_sound.specs.Flags
 pub use Rattle.mc_history.specs.StepKinds
 pub use Rattle.mc_history.specs.StepText
 pub use Rattle.mc_model.specs.Notes

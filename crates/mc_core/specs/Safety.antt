@@ -5,12 +5,9 @@ use Rattle.mc_protocol.specs.declared.{actor.Actor.Actor, fault.Fault.Fault, rep
 use Rattle.mc_protocol.specs.declared.actor.Actor.TheVariants as actor
 use Rattle.mc_protocol.specs.declared.reply.Reply.TheVariants as reply
 use Rattle.mc_script.specs.declared.step.Template.{Template}
-use Rattle.mc_code.specs.Calls.{template_of}
-use Rattle.mc_code.specs.Code.{Code, section_of}
 use Rattle.mc_code.specs.Standing.{StandsAt, IsRightAlong}
-use Rattle.mc_code.specs.States.{Tagged, State}
-use Rattle.mc_code.specs.declared.instr.Call.{Call}
-use Rattle.mc_flow.specs.Flags.{IsAdmitted, all_clear}
+use Rattle.mc_code.specs.{Calls.template_of, Code.Code, Code.section_of, States.Tagged, States.State, declared.instr.Call.Call}
+use Rattle.mc_sound.specs.Flags.{IsAdmitted, all_clear}
 use Rattle.mc_history.specs.declared.event.Event.{Event}
 use Rattle.mc_history.specs.declared.event.Event.TheVariants as event
 use Rattle.mc_core.specs.Logs.{new_log, calls_in, answered_in, events_in, request_of, IsRightLog}

@@ -1,15 +1,12 @@
 //! A list of events, from the first to the last.
 ghost use Rattle.std.specs.Prelude.{◌≡◌, IfOk};
-ghost use Rattle.mc_core.specs.Held.{IsHeldBy};
-ghost use Rattle.mc_core.specs.Safety.{IsSafe};
-ghost use Rattle.mc_core.specs.Steps.{IsFold};
-ghost use Rattle.mc_core.specs.Worlds.{new_world};
+ghost use Rattle.mc_core.specs.{Held.IsHeldBy, Safety.IsSafe, Steps.IsFold, Worlds.new_world};
 
 use crate::World;
 use crate::world::know_code;
 use mc_history::Event;
 use mc_protocol::{Actor, OutOfMemory};
-use mc_verify::Checked;
+use mc_sound::Checked;
 use std::alloc::Global;
 
 /// The world after these events, and how many of them it refused: those are skipped.

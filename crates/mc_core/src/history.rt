@@ -12,7 +12,7 @@ use mc_code::Code;
 use mc_history::Event;
 use mc_model::{History, HistoryKind, Note, copy_reply};
 use mc_protocol::{Actor, OutOfMemory, Sections};
-use mc_verify::Checked;
+use mc_sound::Checked;
 use std::alloc::{AllocError, Global};
 
 impl World {

@@ -9,7 +9,7 @@ use mc_code::Call;
 use mc_history::Event;
 use mc_model::copy_reply;
 use mc_protocol::{Actor, Fault, OutOfMemory, Sections};
-use mc_verify::Checked;
+use mc_sound::Checked;
 use std::alloc::Global;
 
 impl World {

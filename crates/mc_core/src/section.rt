@@ -12,7 +12,7 @@ use mc_history::Event;
 use mc_machine::Machine;
 use mc_protocol::{Actor, Fault, OutOfMemory, REQUESTS_LIMIT, Reply, Sections, may_answer};
 use mc_script::VARIABLES_LIMIT;
-use mc_verify::Checked;
+use mc_sound::Checked;
 use std::alloc::Global;
 
 /// What a world holds of a section. The replies to its calls stand in the world's notes.

@@ -20,12 +20,10 @@ ghost use Rattle.std.specs.Prelude.{
 };
 ghost use Rattle.mc_code.specs.Code.{Code, IsCode};
 ghost use Rattle.mc_core.specs.Fields as fields;
-ghost use Rattle.mc_core.specs.Held.{IsHeldBy};
-ghost use Rattle.mc_core.specs.Safety.{AreSmall, IsSmallEvent};
-ghost use Rattle.mc_core.specs.Steps.{IsStep, IsRefused, MayBegin};
+ghost use Rattle.mc_core.specs.{Held.IsHeldBy, Safety.AreSmall, Safety.IsSmallEvent, Steps.IsStep, Steps.IsRefused, Steps.MayBegin};
 ghost use Rattle.mc_core.specs.Worlds as worlds;
 ghost use Rattle.mc_protocol.specs.Sections as sections;
-ghost use Rattle.mc_verify.specs.Faults.{IsSound};
+ghost use Rattle.mc_sound.specs.Faults.{IsSound};
 
 use crate::section::{Section, begin_branches, take_event};
 use crate::{Ending, StepRefusal};
@@ -33,7 +31,7 @@ use mc_code::Call;
 use mc_history::Event;
 use mc_protocol::{Actor, Fault, OutOfMemory, REQUESTS_LIMIT, Reply, Sections};
 use mc_script::VARIABLES_LIMIT;
-use mc_verify::Checked;
+use mc_sound::Checked;
 use std::alloc::Global;
 use std::marker::Model;
 

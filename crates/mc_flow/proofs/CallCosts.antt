@@ -1,39 +1,22 @@
 -- What a call costs is little, and where it is looked up.
 use Rattle.std.proofs.Common.{◌≡◌, ⊎_elim, ℕ, ◌<◌, ◌≤◌, ◌==◌, nat_le, true, Some, List, [], ◌++◌, length, codes, decimal}
 use Rattle.std.proofs.Common.{slice_get, slice_index_or, lit≤, refl, ap, sym, subst, ◌∙◌, arith, length-append}
-use Rattle.std.specs.List.{All, concat}
-use Rattle.std.specs.Option.{option_map}
 use Rattle.std.proofs.lemmas.Bool.{cases_lt, leb-true, eqb-true, and_parts}
-use Rattle.std.proofs.lemmas.List.{get_or_past, length-map}
-use Rattle.std.proofs.lemmas.Fmt.{length-decimal-le}
-use Rattle.std.proofs.lemmas.List.Sums.{AllPass-from_list_all}
 use Rattle.std.proofs.lemmas.Option.{same_Some, slice_get-get_or, slice_get-map, slice_get_read, slice_get_within, get_or_from_slice_get}
-use Rattle.mc_protocol.specs.Decimals.{MAX_32, MAX_64}
-use Rattle.mc_protocol.specs.Fields.{fields_of}
-use Rattle.mc_protocol.specs.Lines.{Word}
-use Rattle.mc_protocol.specs.Names.{is_name}
-use Rattle.mc_protocol.specs.Texts.{after_key, request_text}
-use Rattle.mc_protocol.specs.Words.{verb_word}
+use Rattle.std.proofs.{lemmas.List.get_or_past, lemmas.List.length-map, lemmas.Fmt.length-decimal-le, lemmas.List.Sums.AllPass-from_list_all}
+use Rattle.std.specs.{List.All, List.concat, Option.option_map}
 use Rattle.mc_protocol.specs.declared.limits.TheConstants.{KEY_BYTES_LIMIT}
-use Rattle.mc_protocol.specs.declared.request.Fields.{Fields}
-use Rattle.mc_protocol.specs.declared.request.Fields.TheVariants as fields
-use Rattle.mc_protocol.specs.declared.request.Request.{Request}
-use Rattle.mc_protocol.specs.declared.request.Verb.{Verb}
 use Rattle.mc_protocol.specs.declared.request.Verb.TheVariants.{Set, Add, Replace, Append, Prepend, Cas, Get, Gets, Incr, Decr, Delete, Touch}
-use Rattle.mc_script.specs.ScriptWords.{is_body}
+use Rattle.mc_protocol.specs.{Decimals.MAX_32, Decimals.MAX_64, Fields.fields_of, Lines.Word, Names.is_name, Texts.after_key, Texts.request_text}
+use Rattle.mc_protocol.specs.{Words.verb_word, declared.request.Fields.Fields, declared.request.Request.Request, declared.request.Verb.Verb}
+use Rattle.mc_protocol.specs.declared.request.Fields.TheVariants as fields
 use Rattle.mc_script.specs.Templates.{is_nothing, is_variable, is_amount, is_empty, has_fields, IsTemplate}
-use Rattle.mc_script.specs.declared.step.Argument.{Argument}
+use Rattle.mc_script.specs.{ScriptWords.is_body, declared.step.Argument.Argument, declared.step.Template.Template}
 use Rattle.mc_script.specs.declared.step.Argument.TheVariants as argument
-use Rattle.mc_script.specs.declared.step.Template.{Template}
-use Rattle.mc_code.specs.Calls.{no_template}
-use Rattle.mc_code.specs.Code.{Code, IsCode}
-use Rattle.mc_code.specs.Requests.{request_with}
-use Rattle.mc_flow.specs.Costs.{longest_number, cost_of}
-use Rattle.mc_flow.specs.CostTables.{cost_by, weights_of, AreWeights}
-use Rattle.mc_flow.specs.declared.cost.Cost.{Cost}
-use Rattle.mc_flow.specs.declared.weights.Weights.{Weights}
-use Rattle.mc_flow.specs.declared.measure.Measure.{Measure}
-use Rattle.mc_flow.specs.declared.measure.Measure.TheVariants as measure
+use Rattle.mc_code.specs.{Calls.no_template, Code.Code, Code.IsCode, Requests.request_with}
+use Rattle.mc_sound.specs.{Costs.cost_by, Costs.longest_number, Costs.cost_of, declared.cost.Cost.Cost, declared.measure.Measure.Measure}
+use Rattle.mc_flow.specs.{CostTables.weights_of, CostTables.AreWeights, declared.weights.Weights.Weights}
+use Rattle.mc_sound.specs.declared.measure.Measure.TheVariants as measure
 
 -- ---- texts
 

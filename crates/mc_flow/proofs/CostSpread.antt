@@ -1,27 +1,19 @@
 -- What spreads of costs along the paths of a section is what these cost.
 use Rattle.std.proofs.Common.{◌≡◌, ◌↔◌, inl, inr, ⊎_elim, ℕ, ◌+◌, ◌-◌, ◌*◌, ◌^◌, ◌<◌, ◌≤◌, min, true, Option, Some, List, [], ◌∷◌, ◌++◌}
 use Rattle.std.proofs.Common.{length, slice_get, refl, ap, sym, subst, ◌∙◌, arith}
-use Rattle.std.proofs.lemmas.Bool.{leb-true, le-leb}
-use Rattle.std.proofs.lemmas.List.{map-append}
-use Rattle.mc_protocol.specs.declared.actor.Actor.{Actor}
-use Rattle.mc_protocol.specs.declared.reply.Class.{Class}
+use Rattle.std.proofs.{lemmas.Bool.leb-true, lemmas.Bool.le-leb, lemmas.List.map-append}
+use Rattle.mc_protocol.specs.{declared.actor.Actor.Actor, declared.reply.Class.Class}
 use Rattle.mc_script.specs.declared.step.Template.{Template}
-use Rattle.mc_code.specs.Calls.{LeadsIn, calls_of}
-use Rattle.mc_code.specs.Code.{Code, IsCode, instructions_in}
-use Rattle.mc_code.specs.Paths.{Edge, stays}
-use Rattle.mc_code.specs.declared.instr.Instr.{Instr}
+use Rattle.mc_code.specs.{Calls.LeadsIn, Calls.calls_of, Code.Code, Code.IsCode, Code.instructions_in, Paths.Edge, Paths.stays, declared.instr.Instr.Instr}
 use Rattle.mc_code.proofs.PathLemmas.{path_slides, path_sends, IsKept}
-use Rattle.mc_flow.specs.Costs.{cost_of, cost_along}
-use Rattle.mc_flow.specs.CostTables.{cost_by, is_within, HasCost, IsReached, IsRaised, PathCost, IsOf, CostsSlid, CostsSent, no_cost, CostsLead, IsCostTable}
-use Rattle.mc_flow.specs.Structure.{IsStructured}
-use Rattle.mc_flow.specs.Flows.{Adds, BeginsWith, begins, moves, Moves}
-use Rattle.mc_flow.specs.declared.cost.Cost.{Cost}
-use Rattle.mc_flow.specs.declared.measure.Measure.{Measure}
-use Rattle.mc_flow.specs.declared.measure.Measure.TheVariants as measure
-use Rattle.mc_flow.proofs.CallCosts.{cost_small}
-use Rattle.mc_flow.proofs.CostPaths.{cost_append, cost_after, holds_along, sends_template, has_less}
-use Rattle.mc_flow.proofs.FlowPaths.{leads_hold}
-use Rattle.mc_flow.proofs.Structured.{structured_slides, structured_sends, structured_some}
+use Rattle.mc_sound.specs.{Costs.cost_by, Costs.cost_of, Costs.cost_along, Structure.IsStructured, declared.cost.Cost.Cost, declared.measure.Measure.Measure}
+use Rattle.mc_flow.specs.{CostTables.is_within, CostTables.HasCost, CostTables.IsReached, CostTables.IsRaised, CostTables.PathCost, CostTables.IsOf}
+use Rattle.mc_flow.specs.{CostTables.CostsSlid, CostTables.CostsSent, CostTables.no_cost, CostTables.CostsLead, CostTables.IsCostTable, Flows.Adds}
+use Rattle.mc_flow.specs.{Flows.BeginsWith, Flows.begins, Flows.moves, Flows.Moves}
+use Rattle.mc_sound.specs.declared.measure.Measure.TheVariants as measure
+use Rattle.mc_flow.proofs.{CostPaths.cost_append, CostPaths.cost_after, CostPaths.holds_along, CostPaths.sends_template, CostPaths.has_less}
+use Rattle.mc_flow.proofs.{CallCosts.cost_small, FlowPaths.leads_hold}
+use Rattle.mc_sound.proofs.Structured.{structured_slides, structured_sends, structured_some}
 
 -- ---- what is added to an entry
 

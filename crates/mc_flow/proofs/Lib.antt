@@ -7,7 +7,6 @@ pub mod FlagMoves
 pub mod FlagGrid
 pub mod FlagUnions
 pub mod FlagWays
-pub mod Structured
 pub mod CallCosts
 pub mod CostPaths
 pub mod CostSpread
@@ -17,4 +16,3 @@ pub mod RunKinds
 pub mod KindMoves
 pub mod KindsSpread
 pub mod ExitKinds
-pub mod TemplateVariables

@@ -1,20 +1,15 @@
 -- What a section costs at most, by its table, and where it exceeds its budget.
 use Rattle.std.proofs.Common.{◌≡◌, ◌⊎◌, inl, inr, ◌↔◌, ℕ, ◌+◌, ◌-◌, ◌^◌, ◌<◌, ◌≤◌, min, max, Option, Some, None, List, []}
 use Rattle.std.proofs.Common.{◌∷◌, ◌++◌, length, slice_get, slice_index_or, refl, ap, sym, subst, ◌∙◌, ⊎_elim, arith}
-use Rattle.std.proofs.lemmas.Bool.{cases_lt}
-use Rattle.std.proofs.lemmas.Option.{same_Some, slice_get_within}
+use Rattle.std.proofs.{lemmas.Bool.cases_lt, lemmas.Option.same_Some, lemmas.Option.slice_get_within}
 use Rattle.mc_protocol.specs.declared.actor.Actor.{Actor}
 use Rattle.mc_script.specs.declared.step.Template.{Template}
-use Rattle.mc_code.specs.Calls.{SendsAt, calls_of}
-use Rattle.mc_code.specs.Code.{Code, IsCode, instructions_in}
+use Rattle.mc_code.specs.{Calls.SendsAt, Calls.calls_of, Code.Code, Code.IsCode, Code.instructions_in}
 use Rattle.mc_code.specs.declared.instr.Instr.TheVariants as instr
-use Rattle.mc_flow.specs.Costs.{cost_of, cost_along, MayCost, IsGreatestCost}
-use Rattle.mc_flow.specs.CostTables.{cost_by, IsReached, IsCostTable, IsOpened}
-use Rattle.mc_flow.specs.Structure.{IsStructured}
-use Rattle.mc_flow.specs.declared.cost.Cost.{Cost}
-use Rattle.mc_flow.specs.declared.measure.Measure.{Measure}
-use Rattle.mc_flow.proofs.CallCosts.{cost_small}
-use Rattle.mc_flow.proofs.CostPaths.{cost_append, none_has, some_has, some_bounds, entry_small}
+use Rattle.mc_sound.specs.{Costs.cost_of, Costs.cost_along, Costs.MayCost, Costs.IsGreatestCost, Costs.cost_by, Structure.IsStructured, declared.cost.Cost.Cost}
+use Rattle.mc_sound.specs.{declared.measure.Measure.Measure}
+use Rattle.mc_flow.specs.CostTables.{IsReached, IsCostTable, IsOpened}
+use Rattle.mc_flow.proofs.{CallCosts.cost_small, CostPaths.cost_append, CostPaths.none_has, CostPaths.some_has, CostPaths.some_bounds, CostPaths.entry_small}
 
 -- ---- the cost at a place
 

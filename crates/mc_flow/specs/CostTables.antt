@@ -2,27 +2,14 @@
 use Rattle.std.specs.Prelude.{◌≡◌, ◌⊎◌, ◌↔◌, ℕ, ◌+◌, ◌^◌, ◌<◌, ◌≤◌, nat_le, Bool, true, false, Option}
 use Rattle.std.specs.Prelude.{Some, None, List, length, map, slice_index_or}
 use Rattle.mc_protocol.specs.Sections as sections
-use Rattle.mc_protocol.specs.declared.actor.Actor.{Actor}
-use Rattle.mc_protocol.specs.declared.reply.Class.{Class}
+use Rattle.mc_protocol.specs.{declared.actor.Actor.Actor, declared.reply.Class.Class}
 use Rattle.mc_script.specs.declared.step.Template.{Template}
 use Rattle.mc_code.specs.Calls.{LeadsIn, Opens, calls_of}
-use Rattle.mc_code.specs.Code.{Code, instructions_in}
-use Rattle.mc_code.specs.Paths.{Edge}
-use Rattle.mc_code.specs.declared.instr.Instr.{Instr}
-use Rattle.mc_flow.specs.Costs.{cost_of, cost_along}
-use Rattle.mc_flow.specs.Flows.{Leads, BeginsWith}
-use Rattle.mc_flow.specs.declared.cost.Cost.{Cost}
-use Rattle.mc_flow.specs.declared.measure.Measure.{Measure}
-use Rattle.mc_flow.specs.declared.measure.Measure.TheVariants as measure
-use Rattle.mc_flow.specs.declared.section_costs.CostTables.{CostTables}
-use Rattle.mc_flow.specs.declared.weights.Weights.{Weights}
+use Rattle.mc_code.specs.{Code.Code, Code.instructions_in, Paths.Edge, declared.instr.Instr.Instr}
+use Rattle.mc_sound.specs.{Costs.cost_of, Costs.cost_along, Costs.cost_by, declared.cost.Cost.Cost, declared.measure.Measure.Measure}
+use Rattle.mc_flow.specs.{Flows.Leads, Flows.BeginsWith, declared.section_costs.CostTables.CostTables, declared.weights.Weights.Weights}
+use Rattle.mc_sound.specs.declared.measure.Measure.TheVariants as measure
 pub use Rattle.mc_flow.specs.Entries.{IsEntry}
-
--- ---- costs by both measures
-
-abbrev pub cost_by : Measure → Cost → ℕ
-cost_by measure.Requests cost = cost.requests
-cost_by measure.Bytes cost = cost.bytes
 
 -- what a call of each template costs by the measure, in the order of the templates
 abbrev pub weights_of : Code → Measure → List ℕ

@@ -1,8 +1,6 @@
 -- Where a send leads: the places of the classes that its verb may be answered with.
 use Rattle.std.specs.Prelude.{◌≡◌, ℕ, true, List}
-use Rattle.mc_protocol.specs.Legal.{is_legal}
-use Rattle.mc_protocol.specs.declared.reply.Class.{Class}
-use Rattle.mc_protocol.specs.declared.request.Verb.{Verb}
+use Rattle.mc_protocol.specs.{Legal.is_legal, declared.reply.Class.Class, declared.request.Verb.Verb}
 use Rattle.mc_code.specs.Paths.{entry_of}
 
 -- a reply that a request of this verb may have leads to the place

@@ -1,7 +1,3 @@
-pub mod Flags
-pub mod Ways
-pub mod Costs
-pub mod Structure
 pub mod Entries
 pub mod Flows
 pub mod FlowLaws

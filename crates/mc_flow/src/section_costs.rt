@@ -3,16 +3,16 @@ ghost use Rattle.std.specs.Prelude.{◌≡◌, ◌⊎◌, ◌↔◌, ℕ, ◌<�
 ghost use Rattle.mc_protocol.specs.Sections as sections;
 ghost use Rattle.mc_protocol.specs.declared.actor.Actor.{Actor as Section};
 ghost use Rattle.mc_code.specs.Code as codes;
-ghost use Rattle.mc_flow.specs.Costs as costs;
+ghost use Rattle.mc_sound.specs.Costs as costs;
 ghost use Rattle.mc_flow.specs.CostTables as tables;
-ghost use Rattle.mc_flow.specs.Structure as structure;
-ghost use Rattle.mc_flow.specs.declared.measure.Measure.{Measure as By};
+ghost use Rattle.mc_sound.specs.Structure as structure;
+ghost use Rattle.mc_sound.specs.declared.measure.Measure.{Measure as By};
 
-use crate::Cost;
 use crate::flow::flow_table;
 use crate::weights::Weights;
 use mc_code::{Code, Instr};
 use mc_protocol::{Actor, OutOfMemory, Sections};
+use mc_sound::Cost;
 use std::alloc::Global;
 
 /// What the paths to each place of a code's sections cost at most; nothing where no path leads.
@@ -43,7 +43,7 @@ impl CostTables {
         requires code { codes.IsCode code.now }
         requires structured { (actor : Section) → structure.IsStructured code.now actor }
         requires tables { tables.AreCostTables code.now self.now }
-        ensures { (measure : By) → costs.IsGreatestCost code.now actor measure (tables.cost_by measure result) }
+        ensures { (measure : By) → costs.IsGreatestCost code.now actor measure (costs.cost_by measure result) }
     {
         let mut most = Cost::ZERO;
         'places: for place in 0..code.section(actor).len() {
@@ -58,7 +58,7 @@ impl CostTables {
         requires structured { (actor : Section) → structure.IsStructured code.now actor }
         requires tables { tables.AreCostTables code.now self.now }
         requires place { place < length (codes.instructions_in code.now actor) }
-        ensures { (measure : By) (cost : ℕ) → (cost ≤ tables.cost_by measure result)
+        ensures { (measure : By) (cost : ℕ) → (cost ≤ costs.cost_by measure result)
             ↔ ((cost ≡ 0) ⊎ tables.IsOpened code.now actor measure place cost) }
     {
         match code.instruction(actor, place) {

@@ -3,7 +3,7 @@ ghost use Rattle.std.specs.Prelude.{◌≡◌, [], ◌+◌, ◌^◌, ◌<◌, �
 ghost use Rattle.std.specs.List.{concat};
 ghost use Rattle.mc_protocol.specs.Texts as text;
 ghost use Rattle.mc_code.specs.Requests.{request_with};
-ghost use Rattle.mc_flow.specs.Costs as costs;
+ghost use Rattle.mc_sound.specs.Costs as costs;
 
 use itoa::Buffer;
 use mc_protocol::Fields;

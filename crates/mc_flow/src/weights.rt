@@ -4,9 +4,9 @@ ghost use Rattle.mc_code.specs.Code as codes;
 ghost use Rattle.mc_flow.specs.CostTables as tables;
 
 use crate::text_len::text_len;
-use crate::{Cost, Measure};
 use mc_code::Code;
 use mc_protocol::OutOfMemory;
+use mc_sound::{Cost, Measure};
 use std::alloc::Global;
 
 /// What a call of each template of a code costs.

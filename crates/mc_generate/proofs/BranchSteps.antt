@@ -1,24 +1,16 @@
 -- The steps and the labels of a generated branch keep the rules of a section.
 use Rattle.std.proofs.Common.{◌≡◌, ℕ, ◌+◌, ◌*◌, ◌<◌, ◌≤◌, nat_le, true, false, Some, List, [], ◌∷◌, ◌++◌, length, decimal}
 use Rattle.std.proofs.Common.{refl, sym, subst, arith, append_assoc, length-append, lit<}
-use Rattle.std.specs.Prelude.{slice_get}
-use Rattle.std.specs.Str.{bytes_eq}
 use Rattle.std.proofs.lemmas.Bool.{and_from, le-leb}
-use Rattle.mc_protocol.specs.Decimals.{MAX_64}
-use Rattle.mc_protocol.specs.Fields.{fields_of}
-use Rattle.mc_protocol.specs.Names.{is_new, are_distinct}
-use Rattle.mc_protocol.specs.declared.request.Verb.{Verb}
+use Rattle.std.specs.{Prelude.slice_get, Str.bytes_eq}
+use Rattle.mc_protocol.specs.{Decimals.MAX_64, Fields.fields_of, Names.is_new, Names.are_distinct, declared.request.Verb.Verb}
 use Rattle.mc_protocol.specs.declared.request.Verb.TheVariants as verb
-use Rattle.mc_script.specs.declared.section.Label.{Label}
-use Rattle.mc_script.specs.declared.step.Argument.{Argument}
-use Rattle.mc_script.specs.declared.step.Argument.TheVariants as argument
-use Rattle.mc_script.specs.WellFormed.{label_names}
-use Rattle.mc_script.specs.Templates.{has_fields, IsTemplate}
 use Rattle.mc_script.specs.WellFormed.{IsAfter, AreSteps, AreLabels}
-use Rattle.mc_generate.specs.declared.piece.Piece.{Piece}
-use Rattle.mc_generate.specs.declared.piece.Piece.TheVariants as piece
+use Rattle.mc_script.specs.{declared.section.Label.Label, declared.step.Argument.Argument, WellFormed.label_names, Templates.has_fields, Templates.IsTemplate}
+use Rattle.mc_script.specs.declared.step.Argument.TheVariants as argument
 use Rattle.mc_generate.specs.Generated.{label_name, names_of, request, storing, bare, setting_flag, needing_flag}
-use Rattle.mc_generate.specs.Generated.{steps_of, steps_of_all, labels_of_all}
+use Rattle.mc_generate.specs.{declared.piece.Piece.Piece, Generated.steps_of, Generated.steps_of_all, Generated.labels_of_all}
+use Rattle.mc_generate.specs.declared.piece.Piece.TheVariants as piece
 use Rattle.mc_generate.proofs.PieceFacts.{IsPiece, ArePieces, IsSingle}
 use Rattle.mc_generate.proofs.NameFacts.{decimal-body, label-named, labels-differ}
 

@@ -1,31 +1,20 @@
 -- Scripts and code under a name keep the limits of scripts and of code, and the code of the one is the other.
 use Rattle.std.proofs.Common.{◌≡◌, ℕ, ◌+◌, ◌*◌, ◌≤◌, true, Some, None, List, [], ◌∷◌, length, refl, sym, ap, subst, ◌∙◌}
-use Rattle.std.specs.Prelude.{Option}
-use Rattle.std.specs.Option.{option_map}
-use Rattle.std.specs.List.{All}
-use Rattle.std.proofs.lemmas.Option.{slice_get-map}
-use Rattle.std.proofs.Math.Nat.{min-le_left}
-use Rattle.mc_protocol.specs.Lines.{Word}
-use Rattle.mc_protocol.specs.declared.actor.Actor.{Actor}
-use Rattle.mc_protocol.specs.declared.actor.Actor.TheVariants as actor
+use Rattle.std.proofs.{lemmas.Option.slice_get-map, Math.Nat.min-le_left}
+use Rattle.std.specs.{Prelude.Option, Option.option_map, List.All}
 use Rattle.mc_protocol.specs.declared.limits.TheConstants.{REQUEST_BYTES_LIMIT}
-use Rattle.mc_protocol.specs.declared.request.Verb.{Verb}
-use Rattle.mc_protocol.specs.declared.reply.Class.{Class}
-use Rattle.mc_script.specs.declared.section.Budget.{Budget}
-use Rattle.mc_script.specs.declared.section.Label.{Label}
-use Rattle.mc_script.specs.declared.step.Step.{Step}
+use Rattle.mc_protocol.specs.{Lines.Word, declared.actor.Actor.Actor, declared.request.Verb.Verb, declared.reply.Class.Class}
+use Rattle.mc_protocol.specs.declared.actor.Actor.TheVariants as actor
+use Rattle.mc_script.specs.{declared.section.Budget.Budget, declared.section.Label.Label, declared.step.Step.Step, Templates.IsTemplate}
 use Rattle.mc_script.specs.declared.step.Step.TheVariants as step
 use Rattle.mc_script.specs.Script as script
-use Rattle.mc_script.specs.Templates.{IsTemplate}
 use Rattle.mc_script.specs.WellFormed as formed
 use Rattle.mc_code.specs.Code as code
 use Rattle.mc_code.specs.ScriptRuns.{clearing_steps}
 use Rattle.mc_generate.specs.CodesUnder.{CodesFollowScripts, ScriptsStayScripts, RequestsDifferByKeys}
-use Rattle.mc_settings.specs.Namespaces.{is_namespace, key_under}
 use Rattle.mc_generate.specs.CodesUnder.{keys_under, budget_under, section_under, code_section_under, code_under}
-use Rattle.mc_settings.specs.Namespaces.{AreShort}
-use Rattle.mc_generate.specs.CodesUnder.{added_bytes, request_under}
-use Rattle.mc_generate.specs.ImageFronts.{IsSmall}
+use Rattle.mc_generate.specs.{CodesUnder.added_bytes, CodesUnder.request_under, ImageFronts.IsSmall}
+use Rattle.mc_settings.specs.{Namespaces.is_namespace, Namespaces.key_under, Namespaces.AreShort}
 use Rattle.mc_generate.proofs.KeysUnder.{count-under, some-key-under, declared-under}
 
 pub few-bytes : (name : Word) (budget : Budget) → (budget_under name budget).bytes ≤ REQUEST_BYTES_LIMIT

@@ -2,17 +2,13 @@
 use Rattle.std.proofs.Common.{◌≡◌, ℕ, suc, ◌+◌, ◌-◌, ◌<◌, List, [], ◌∷◌, ◌++◌, length}
 use Rattle.std.proofs.Common.{refl, sym, ap, subst, ◌∙◌, arith, append_assoc, length-append}
 use Rattle.std.proofs.lemmas.List.{append-nil}
-use Rattle.mc_script.specs.Script.{Names, Section}
-use Rattle.mc_script.specs.declared.section.Label.{Label}
-use Rattle.rand_pcg.specs.Lcg.{Lcg, started, increment_of}
-use Rattle.rand_pcg.specs.Pcg.{multiplier_64}
-use Rattle.mc_generate.specs.declared.piece.Piece.{Piece}
-use Rattle.mc_generate.specs.declared.piece.Piece.TheVariants as piece
-use Rattle.mc_generate.specs.Branches.{with_piece, with_pieces}
+use Rattle.mc_script.specs.{Script.Names, Script.Section, declared.section.Label.Label}
+use Rattle.rand_pcg.specs.{Lcg.Lcg, Lcg.started, Lcg.increment_of, Pcg.multiplier_64}
 use Rattle.mc_generate.specs.Generated.{label_name, names_of, budget, steps_of, steps_of_all, labels_of_all, branch_of}
 use Rattle.mc_generate.specs.Generated.{prefix_of, second_in, generated}
 use Rattle.mc_generate.specs.Outputs.{Outputs, outputs_of, rest, draw}
-use Rattle.mc_generate.specs.Pieces.{piece_in, pieces_in, branch_in}
+use Rattle.mc_generate.specs.{declared.piece.Piece.Piece, Branches.with_piece, Branches.with_pieces, Pieces.piece_in, Pieces.pieces_in, Pieces.branch_in}
+use Rattle.mc_generate.specs.declared.piece.Piece.TheVariants as piece
 
 -- ---- a branch, piece by piece
 

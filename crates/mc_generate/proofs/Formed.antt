@@ -1,17 +1,13 @@
 -- What the outputs of a generator say is a script.
 use Rattle.std.proofs.Common.{ℕ, ◌+◌, ◌<◌, ◌≤◌, ◌==◌, Option, Some, None, List, [], length}
-use Rattle.std.proofs.Common.{refl, arith}
-use Rattle.std.proofs.lemmas.Bool.{cond_both}
+use Rattle.std.proofs.{Common.refl, Common.arith, lemmas.Bool.cond_both}
 use Rattle.mc_protocol.specs.Decimals.{MAX_64}
 use Rattle.mc_script.specs.WellFormed.{IsSection, IsScript}
-use Rattle.mc_generate.specs.declared.piece.Piece.{Piece}
 use Rattle.mc_generate.specs.Outputs.{Outputs, rest, draw, outputs_for}
-use Rattle.mc_generate.specs.Pieces.{branch_in}
 use Rattle.mc_generate.specs.Generated.{names_of, branch_of, prefix_of, second_in, Plan, plan_in, script_of, generated}
-use Rattle.mc_generate.specs.Generated.{steps_of_all}
-use Rattle.mc_generate.proofs.PieceFacts.{ArePieces, are-pieces, length-pieces}
-use Rattle.mc_generate.proofs.NameFacts.{declared}
+use Rattle.mc_generate.specs.{declared.piece.Piece.Piece, Pieces.branch_in, Generated.steps_of_all}
 use Rattle.mc_generate.proofs.BranchSteps.{stores, sets-flag, branch-steps, few-steps, branch-labels, labels-distinct}
+use Rattle.mc_generate.proofs.{PieceFacts.ArePieces, PieceFacts.are-pieces, PieceFacts.length-pieces, NameFacts.declared}
 
 -- a body that P may store
 abbrev IsBody : Option ℕ → Type 0

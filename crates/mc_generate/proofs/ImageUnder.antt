@@ -1,19 +1,15 @@
 -- The image of code under a name: that of the code with another front.
 use Rattle.std.proofs.Common.{◌≡◌, ℕ, ◌≤◌, true, List, [], ◌∷◌, ◌++◌, length, take, drop, refl, sym, ap, subst, ◌∙◌, arith, append_assoc}
-use Rattle.std.proofs.Common.{append-nil, length-append}
+use Rattle.std.proofs.{Common.append-nil, Common.length-append, lemmas.List.Prefix.front_rest}
 use Rattle.std.specs.List.{concat}
-use Rattle.std.proofs.lemmas.List.Prefix.{front_rest}
-use Rattle.mc_protocol.specs.Lines.{Word}
-use Rattle.mc_protocol.specs.declared.sections.Sections.{Sections}
-use Rattle.mc_script.specs.declared.section.Budget.{Budget}
-use Rattle.mc_script.specs.declared.version.Version.{Version}
+use Rattle.mc_protocol.specs.{Lines.Word, declared.sections.Sections.Sections}
+use Rattle.mc_script.specs.{declared.section.Budget.Budget, declared.version.Version.Version}
 use Rattle.mc_script.specs.declared.version.Version.TheVariants as version
 use Rattle.mc_code.specs.Code.{Code, IsCode}
 use Rattle.mc_image.specs.Image.{CodesHaveImages, IsImageOf, image_in, image_of, version_of, magic, with_count, with_length, budget_bytes}
 use Rattle.mc_image.specs.Image.{template_bytes, section_bytes}
-use Rattle.mc_generate.specs.ImageFronts.{front_bytes, budgets_of, counts_of}
+use Rattle.mc_generate.specs.{ImageFronts.front_bytes, ImageFronts.budgets_of, ImageFronts.counts_of, CodesUnder.code_under}
 use Rattle.mc_settings.specs.Namespaces.{is_namespace, AreShort}
-use Rattle.mc_generate.specs.CodesUnder.{code_under}
 use Rattle.mc_generate.proofs.CodeUnder.{code-stays}
 
 -- ---- the parts of an image

@@ -1,22 +1,16 @@
 -- Why a job has no code follows from why its script has none, or why the code has none under a name.
 use Rattle.std.proofs.Common.{◌≡◌, ℕ, Some, None, List, [], inl, inr, Result, Ok, Err, IfErr, IfOk, refl, sym, ap, subst, ◌∙◌}
-use Rattle.std.specs.Prelude.{Option}
-use Rattle.std.specs.List.{position}
 use Rattle.std.proofs.lemmas.List.Quantifiers.{position-Some}
+use Rattle.std.specs.{Prelude.Option, List.position}
 use Rattle.mc_protocol.specs.Lines.{Word}
-use Rattle.mc_code.specs.Code.{Code}
-use Rattle.mc_code.specs.Layout.{code_of}
-use Rattle.mc_verify.specs.Checked.{Checked}
-use Rattle.mc_generate.specs.Generated.{generated, names_of}
+use Rattle.mc_code.specs.{Code.Code, Layout.code_of}
+use Rattle.mc_sound.specs.Checked.{Checked}
 use Rattle.mc_generate.specs.JobCodes.{code_for, fault_of, HasLongKey, IsJobFault}
+use Rattle.mc_generate.specs.{Generated.generated, Generated.names_of, CodesUnder.code_under, CodesUnder.IsPutFault, Refusals.HasFault, Refusals.IsRefused}
+use Rattle.mc_generate.specs.{declared.fault.GenFault.GenFault, declared.fault.JobFault.JobFault, declared.naming.PutFault.PutFault}
 use Rattle.mc_settings.specs.Namespaces.{is_too_long, AreShort}
-use Rattle.mc_generate.specs.CodesUnder.{code_under, IsPutFault}
-use Rattle.mc_generate.specs.Refusals.{HasFault, IsRefused}
-use Rattle.mc_generate.specs.declared.fault.GenFault.{GenFault}
 use Rattle.mc_generate.specs.declared.fault.GenFault.TheVariants as gen
-use Rattle.mc_generate.specs.declared.fault.JobFault.{JobFault}
 use Rattle.mc_generate.specs.declared.fault.JobFault.TheVariants as fault
-use Rattle.mc_generate.specs.declared.naming.PutFault.{PutFault}
 use Rattle.mc_generate.specs.declared.naming.PutFault.TheVariants as put
 
 -- a script that has no code leaves its job without code

@@ -1,16 +1,12 @@
 -- Keys under a name: they may be declared where those without it may, if none becomes too long.
 use Rattle.std.proofs.Common.{◌≡◌, ℕ, ◌≤◌, ◌==◌, nat_le, Bool, true, false, not, ◌&&◌, List, [], ◌∷◌, ◌++◌, length, codes}
 use Rattle.std.proofs.Common.{◌+◌, refl, sym, subst, ◌∙◌, arith, length-append}
-use Rattle.std.specs.List.{All, list_all, list_any}
-use Rattle.std.specs.Str.{bytes_eq}
 use Rattle.std.proofs.lemmas.Bool.{and_parts, and_from, ltb-false, le-leb, eq-eqb}
-use Rattle.std.proofs.lemmas.List.{length-map}
-use Rattle.std.proofs.lemmas.Bool.Decides.{nat_tests}
 use Rattle.std.proofs.lemmas.List.Elements.{All-nil, All-cons, All-head, All-tail}
-use Rattle.std.proofs.lemmas.List.Folds.{list_all-append}
-use Rattle.mc_protocol.specs.Lines.{Word}
+use Rattle.std.proofs.{lemmas.List.length-map, lemmas.Bool.Decides.nat_tests, lemmas.List.Folds.list_all-append}
+use Rattle.std.specs.{List.All, List.list_all, List.list_any, Str.bytes_eq}
 use Rattle.mc_protocol.specs.Names.{is_name, is_name_byte, are_name_bytes, are_distinct}
-use Rattle.mc_protocol.specs.declared.limits.TheConstants.{KEYS_LIMIT, KEY_BYTES_LIMIT}
+use Rattle.mc_protocol.specs.{Lines.Word, declared.limits.TheConstants.KEYS_LIMIT, declared.limits.TheConstants.KEY_BYTES_LIMIT}
 use Rattle.mc_script.specs.Script.{may_be_declared}
 use Rattle.mc_settings.specs.Namespaces.{is_namespace, key_under, is_too_long, AreShort}
 use Rattle.mc_generate.specs.CodesUnder.{keys_under}

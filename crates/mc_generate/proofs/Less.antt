@@ -1,19 +1,14 @@
 -- All steps are some of the steps, and less a step of less of a script is less of the script.
 use Rattle.std.proofs.Common.{◌≡◌, ℕ, ◌+◌, ◌<◌, ◌≤◌, zero, suc, Bool, true, false, List, [], ◌∷◌, map, length, take}
 use Rattle.std.proofs.Common.{refl, sym, ap, subst, ◌∙◌, arith, inl, inr, ⊎_elim}
+use Rattle.std.proofs.{lemmas.Bool.lt-ltb, lemmas.Bool.le-ltb, lemmas.Bool.cases_lt, lemmas.List.Edits.length-remove}
 use Rattle.std.specs.List.{remove}
-use Rattle.std.proofs.lemmas.Bool.{lt-ltb, le-ltb, cases_lt}
-use Rattle.std.proofs.lemmas.List.Edits.{length-remove}
-use Rattle.mc_protocol.specs.declared.actor.Actor.{Actor}
+use Rattle.mc_protocol.specs.{declared.actor.Actor.Actor, Lines.Word, declared.sections.Sections.Sections}
 use Rattle.mc_protocol.specs.declared.actor.Actor.TheVariants as actor
-use Rattle.mc_protocol.specs.Lines.{Word}
 use Rattle.mc_protocol.specs.Sections as of
-use Rattle.mc_protocol.specs.declared.sections.Sections.{Sections}
-use Rattle.mc_script.specs.declared.section.Label.{Label}
-use Rattle.mc_script.specs.declared.step.Step.{Step}
-use Rattle.mc_script.specs.Script.{Names, Section, Script, section_of}
 use Rattle.mc_script.specs.WellFormed.{AreLabels, IsSection, IsScript}
 use Rattle.mc_script.specs.WithoutStep.{place_without, label_without, section_without, without_step}
+use Rattle.mc_script.specs.{declared.section.Label.Label, declared.step.Step.Step, Script.Names, Script.Section, Script.Script, Script.section_of}
 use Rattle.mc_generate.specs.Shrinking.{HasSteps, with_count}
 use Rattle.mc_generate.specs.Shrunk.{steps_left, label_left, IsLessSection, IsLess, IsAccepted, IsShrunk}
 

@@ -1,20 +1,14 @@
 -- The names of a generated script are names, and differ; the decimal of a small number is a body.
 use Rattle.std.proofs.Common.{◌≡◌, ℕ, ◌+◌, ◌<◌, ◌≤◌, ◌==◌, nat_le, Bool, true, false, not, ◌&&◌, ◌||◌, List, [], ◌∷◌, ◌++◌}
 use Rattle.std.proofs.Common.{length, codes, decimal, refl, ap, subst, ◌∙◌, arith, length-append}
-use Rattle.std.specs.List.{list_all}
-use Rattle.std.specs.Str.{bytes_eq}
 use Rattle.std.proofs.lemmas.Bool.{and_parts, and_from, le-leb, false_from_ne_true}
-use Rattle.std.proofs.lemmas.Bool.Decides.{nat_tests}
 use Rattle.std.proofs.lemmas.Fmt.{decimal_digit, length-decimal-le}
-use Rattle.std.proofs.lemmas.List.{append_cancel_left}
-use Rattle.std.proofs.lemmas.List.Folds.{list_all-append}
-use Rattle.std.proofs.lemmas.Slice.Eq.{bytes_eq-Decides}
+use Rattle.std.proofs.{lemmas.Bool.Decides.nat_tests, lemmas.List.append_cancel_left, lemmas.List.Folds.list_all-append, lemmas.Slice.Eq.bytes_eq-Decides}
+use Rattle.std.specs.{List.list_all, Str.bytes_eq}
 use Rattle.mc_protocol.proofs.Decimals.{decimal-spells, one_number}
-use Rattle.mc_protocol.specs.Decimals.{SpellsNumber, is_digit, are_digits, MAX_64}
-use Rattle.mc_protocol.specs.Lines.{Word}
 use Rattle.mc_protocol.specs.Names.{is_name_byte, are_name_bytes, is_name, are_distinct}
-use Rattle.mc_script.specs.Script.{AreDeclared}
-use Rattle.mc_script.specs.ScriptWords.{is_label_name, is_body_byte, are_body_bytes, is_body}
+use Rattle.mc_protocol.specs.{Decimals.SpellsNumber, Decimals.is_digit, Decimals.are_digits, Decimals.MAX_64, Lines.Word}
+use Rattle.mc_script.specs.{Script.AreDeclared, ScriptWords.is_label_name, ScriptWords.is_body_byte, ScriptWords.are_body_bytes, ScriptWords.is_body}
 use Rattle.mc_settings.specs.JobKeys.{key_name}
 use Rattle.mc_generate.specs.Generated.{label_name, names_of}
 

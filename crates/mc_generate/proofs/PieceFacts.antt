@@ -1,10 +1,8 @@
 -- What is so of each piece that outputs say: it has one of two keys, and a number of at most two digits.
 use Rattle.std.proofs.Common.{◌≡◌, ℕ, zero, suc, ◌+◌, ◌<◌, ◌==◌, Bool, true, false, List, [], ◌∷◌, length, refl, ap, arith}
 use Rattle.std.specs.Prelude.{if◌then◌else◌}
-use Rattle.mc_generate.specs.declared.piece.Piece.{Piece}
+use Rattle.mc_generate.specs.{declared.piece.Piece.Piece, Outputs.Outputs, Outputs.rest, Outputs.draw, Pieces.row_in, Pieces.piece_in, Pieces.pieces_in}
 use Rattle.mc_generate.specs.declared.piece.Piece.TheVariants as piece
-use Rattle.mc_generate.specs.Outputs.{Outputs, rest, draw}
-use Rattle.mc_generate.specs.Pieces.{row_in, piece_in, pieces_in}
 
 abbrev pub key_of : Piece → ℕ
 key_of (piece.Set key body) = key

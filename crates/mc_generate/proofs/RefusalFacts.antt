@@ -1,14 +1,12 @@
 -- What a refusal of the code of a generated script tells.
 use Rattle.std.proofs.Common.{◌≡◌, inl, inr, Result, Ok, Err, IfErr, refl, ap, subst}
 use Rattle.mc_script.specs.Script.{Script}
-use Rattle.mc_code.specs.Code.{Code}
-use Rattle.mc_code.specs.Layout.{code_of}
-use Rattle.mc_verify.specs.Checked.{Checked, IsRefusalOf}
-use Rattle.mc_verify.specs.declared.refusal.Refusal.{Refusal}
-use Rattle.mc_verify.specs.declared.refusal.RefusalKind.TheVariants as kind
-use Rattle.mc_generate.specs.declared.fault.GenFault.{GenFault}
+use Rattle.mc_code.specs.{Code.Code, Layout.code_of}
+use Rattle.mc_sound.specs.Checked.{Checked}
+use Rattle.mc_verify.specs.{Refusals.IsRefusalOf, declared.refusal.Refusal.Refusal}
+use Rattle.mc_sound.specs.declared.refusal_kind.RefusalKind.TheVariants as kind
+use Rattle.mc_generate.specs.{declared.fault.GenFault.GenFault, Refusals.HasFault, Refusals.IsRefused}
 use Rattle.mc_generate.specs.declared.fault.GenFault.TheVariants as fault
-use Rattle.mc_generate.specs.Refusals.{HasFault, IsRefused}
 
 -- a refusal for another cause than want of memory names a fault of the code
 pub fault-named : (code : Code) (refusal : Refusal) → (refusal.kind ≡ kind.OutOfMemory → ⊥) → IsRefusalOf code refusal → HasFault code

@@ -1,9 +1,8 @@
 -- How a branch grows by its pieces, one after the other. No public contract cites these.
 use Rattle.std.specs.Prelude.{ℕ, ◌+◌, List, [], ◌∷◌, ◌++◌, length}
 use Rattle.mc_script.specs.Script.{Section}
-use Rattle.mc_generate.specs.declared.piece.Piece.{Piece}
+use Rattle.mc_generate.specs.{declared.piece.Piece.Piece, Generated.label_name, Generated.steps_of}
 use Rattle.mc_generate.specs.declared.piece.Piece.TheVariants as piece
-use Rattle.mc_generate.specs.Generated.{label_name, steps_of}
 
 -- the section with the steps of the piece with this index after its own; the label of a swap stands after them
 abbrev pub with_piece : ℕ → Piece → Section → Section

@@ -1,16 +1,11 @@
 -- What a script is under a name: the name and a dash stand before each of its keys. And what its code is.
 use Rattle.std.specs.Prelude.{◌≡◌, ℕ, ◌+◌, ◌*◌, true, Some, List, map, length, min}
 use Rattle.std.specs.List.{position}
-use Rattle.mc_protocol.specs.Lines.{Word}
-use Rattle.mc_protocol.specs.declared.limits.TheConstants.{REQUEST_BYTES_LIMIT}
-use Rattle.mc_protocol.specs.declared.request.Request.{Request}
-use Rattle.mc_script.specs.declared.section.Budget.{Budget}
+use Rattle.mc_protocol.specs.{Lines.Word, declared.limits.TheConstants.REQUEST_BYTES_LIMIT, declared.request.Request.Request}
+use Rattle.mc_script.specs.{declared.section.Budget.Budget, WellFormed.IsScript}
 use Rattle.mc_script.specs.Script as script
-use Rattle.mc_script.specs.WellFormed.{IsScript}
 use Rattle.mc_code.specs.Code as code
-use Rattle.mc_code.specs.Layout.{code_of}
-use Rattle.mc_code.specs.Requests.{IsRequest}
-use Rattle.mc_code.specs.declared.instr.Call.{Call}
+use Rattle.mc_code.specs.{Layout.code_of, Requests.IsRequest, declared.instr.Call.Call}
 use Rattle.mc_settings.specs.Namespaces.{is_namespace, key_under, is_too_long, AreShort}
 use Rattle.mc_generate.specs.declared.naming.PutFault.{PutFault}
 use Rattle.mc_generate.specs.declared.naming.PutFault.TheVariants as fault

@@ -1,22 +1,16 @@
 -- Which script a generator makes.
 use Rattle.std.specs.Prelude.{ℕ, ◌+◌, ◌==◌, Option, Some, None, List, [], ◌∷◌, ◌++◌, codes, decimal, if◌then◌else◌}
-use Rattle.mc_protocol.specs.Lines.{Word}
+use Rattle.mc_protocol.specs.{Lines.Word, declared.request.Verb.Verb}
 use Rattle.mc_protocol.specs.declared.reply.Class.TheVariants as class
-use Rattle.mc_protocol.specs.declared.request.Verb.{Verb}
 use Rattle.mc_protocol.specs.declared.request.Verb.TheVariants as verb
-use Rattle.mc_script.specs.Script.{Names, Section, Script}
-use Rattle.mc_script.specs.declared.section.Budget.{Budget}
-use Rattle.mc_script.specs.declared.section.Label.{Label}
-use Rattle.mc_script.specs.declared.step.Argument.{Argument}
+use Rattle.mc_script.specs.{Script.Names, Script.Section, Script.Script, declared.section.Budget.Budget, declared.section.Label.Label}
+use Rattle.mc_script.specs.{declared.step.Argument.Argument, declared.step.Step.Step, declared.step.Template.Template}
 use Rattle.mc_script.specs.declared.step.Argument.TheVariants as argument
-use Rattle.mc_script.specs.declared.step.Step.{Step}
 use Rattle.mc_script.specs.declared.step.Step.TheVariants as step
-use Rattle.mc_script.specs.declared.step.Template.{Template}
 use Rattle.mc_settings.specs.JobKeys.{keys_of}
-use Rattle.mc_generate.specs.declared.piece.Piece.{Piece}
-use Rattle.mc_generate.specs.declared.piece.Piece.TheVariants as piece
 use Rattle.mc_generate.specs.Outputs.{Outputs, rest, draw, outputs_for}
-use Rattle.mc_generate.specs.Pieces.{branch_in}
+use Rattle.mc_generate.specs.{declared.piece.Piece.Piece, Pieces.branch_in}
+use Rattle.mc_generate.specs.declared.piece.Piece.TheVariants as piece
 
 -- ---- names and budgets
 

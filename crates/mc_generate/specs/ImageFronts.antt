@@ -1,8 +1,7 @@
 -- How the image of code begins. No public contract cites these.
 use Rattle.std.specs.Prelude.{ℕ, ◌≤◌, List, [], ◌∷◌, ◌++◌}
-use Rattle.mc_protocol.specs.Lines.{Word}
 use Rattle.mc_protocol.specs.declared.limits.TheConstants.{REQUESTS_LIMIT, REQUEST_BYTES_LIMIT}
-use Rattle.mc_protocol.specs.declared.sections.Sections.{Sections}
+use Rattle.mc_protocol.specs.{Lines.Word, declared.sections.Sections.Sections}
 use Rattle.mc_script.specs.declared.section.Budget.{Budget}
 use Rattle.mc_code.specs.Code.{Code}
 use Rattle.mc_image.specs.Image.{budget_bytes, with_count, with_length}

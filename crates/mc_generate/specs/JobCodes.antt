@@ -1,16 +1,11 @@
 -- The code of a job under the name of its campaign, and why there may be none.
 use Rattle.std.specs.Prelude.{◌⊎◌, ℕ, ◌+◌, ◌≤◌, ◌<◌, Option, Some, None}
 use Rattle.mc_protocol.specs.Lines.{Word}
-use Rattle.mc_code.specs.Code.{Code}
-use Rattle.mc_code.specs.Layout.{code_of}
-use Rattle.mc_settings.specs.JobKeys.{keys_of}
-use Rattle.mc_generate.specs.Generated.{generated}
-use Rattle.mc_settings.specs.Namespaces.{AreShort}
-use Rattle.mc_generate.specs.CodesUnder.{code_under}
-use Rattle.mc_generate.specs.Refusals.{HasFault, IsRefused}
-use Rattle.mc_generate.specs.declared.fault.GenFault.{GenFault}
+use Rattle.mc_code.specs.{Code.Code, Layout.code_of}
+use Rattle.mc_settings.specs.{JobKeys.keys_of, Namespaces.AreShort}
+use Rattle.mc_generate.specs.{Generated.generated, CodesUnder.code_under, Refusals.HasFault, Refusals.IsRefused}
+use Rattle.mc_generate.specs.{declared.fault.GenFault.GenFault, declared.fault.JobFault.JobFault}
 use Rattle.mc_generate.specs.declared.fault.GenFault.TheVariants as gen
-use Rattle.mc_generate.specs.declared.fault.JobFault.{JobFault}
 use Rattle.mc_generate.specs.declared.fault.JobFault.TheVariants as fault
 
 -- the code of the job's script, put under the name where there is one

@@ -1,7 +1,6 @@
 -- What a generator gives.
 use Rattle.std.specs.Prelude.{ℕ, zero, suc, ◌%◌}
-use Rattle.rand_pcg.specs.Lcg.{Lcg, increment_of, started}
-use Rattle.rand_pcg.specs.Pcg.{multiplier_64, pcg32}
+use Rattle.rand_pcg.specs.{Lcg.Lcg, Lcg.increment_of, Lcg.started, Pcg.multiplier_64, Pcg.pcg32}
 
 -- the list of all 32-bit words that a generator gives from now on, each by its index
 abbrev pub Outputs : Type 0

@@ -1,8 +1,7 @@
 -- What the outputs of a generator say of a branch. Each number that is drawn takes one output.
 use Rattle.std.specs.Prelude.{ℕ, zero, suc, ◌+◌, ◌==◌, List, [], ◌∷◌, if◌then◌else◌}
-use Rattle.mc_generate.specs.declared.piece.Piece.{Piece}
+use Rattle.mc_generate.specs.{declared.piece.Piece.Piece, Outputs.Outputs, Outputs.rest, Outputs.draw}
 use Rattle.mc_generate.specs.declared.piece.Piece.TheVariants as piece
-use Rattle.mc_generate.specs.Outputs.{Outputs, rest, draw}
 
 -- the piece of this row of the table on this key, its argument drawn where it has one; and the outputs after it
 abbrev pub row_in : ℕ → ℕ → Outputs → Piece × Outputs

@@ -1,8 +1,7 @@
 -- How far a script is shrunk. No public contract cites these.
 use Rattle.std.specs.Prelude.{ℕ, ◌≤◌, length}
-use Rattle.mc_protocol.specs.declared.actor.Actor.{Actor}
+use Rattle.mc_protocol.specs.{declared.actor.Actor.Actor, declared.sections.Sections.Sections}
 use Rattle.mc_protocol.specs.declared.actor.Actor.TheVariants as actor
-use Rattle.mc_protocol.specs.declared.sections.Sections.{Sections}
 use Rattle.mc_script.specs.Script.{Script}
 
 -- each section of the script has at least as many steps

@@ -1,8 +1,7 @@
 //! The code of generated scripts.
 ghost use Rattle.std.specs.Prelude.{◌≡◌, IfErr, IfOk};
 ghost use Rattle.mc_code.specs.Layout.{code_of};
-ghost use Rattle.mc_generate.specs.Generated.{generated};
-ghost use Rattle.mc_generate.specs.Refusals.{HasFault, IsRefused, IsTooLarge};
+ghost use Rattle.mc_generate.specs.{Generated.generated, Refusals.HasFault, Refusals.IsRefused, Refusals.IsTooLarge};
 
 use crate::GenFault;
 use crate::script::generate_script;

@@ -3,13 +3,12 @@ ghost use Rattle.std.specs.Prelude.{◌≡◌, IfErr, IfOk};
 ghost use Rattle.std.specs.Option.{option_copied};
 ghost use Rattle.mc_generate.specs.JobCodes as spec;
 ghost use Rattle.mc_settings.specs.Namespaces.{AreShort};
-ghost use Rattle.mc_generate.specs.CodesUnder.{code_under};
-ghost use Rattle.mc_generate.specs.Refusals.{HasFault};
+ghost use Rattle.mc_generate.specs.{CodesUnder.code_under, Refusals.HasFault};
 
 use crate::generator::{generate, verify_code};
 use crate::{JobFault, PutFault, put_under};
 use mc_settings::Namespace;
-use mc_verify::Checked;
+use mc_sound::Checked;
 use std::alloc::Global;
 
 /// The code of a job's script, put under the name where there is one.

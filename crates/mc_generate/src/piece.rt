@@ -1,8 +1,7 @@
 //! The pieces of the branches of a generated script.
 ghost use Rattle.std.specs.Prelude.{◌≡◌};
 ghost use Rattle.mc_generate.specs.Outputs as outputs;
-ghost use Rattle.mc_generate.specs.Outputs.{outputs_of};
-ghost use Rattle.mc_generate.specs.Pieces.{piece_in};
+ghost use Rattle.mc_generate.specs.{Outputs.outputs_of, Pieces.piece_in};
 
 use crate::draws::draw;
 use rand_pcg::Lcg64Xsh32;

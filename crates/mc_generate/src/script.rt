@@ -1,7 +1,6 @@
 //! The script of a job.
 ghost use Rattle.std.specs.Prelude.{◌≡◌, [], IfOk};
-ghost use Rattle.mc_generate.specs.Outputs.{outputs_of, rest, draw};
-ghost use Rattle.mc_generate.specs.Pieces.{branch_in};
+ghost use Rattle.mc_generate.specs.{Outputs.outputs_of, Outputs.rest, Outputs.draw, Pieces.branch_in};
 ghost use Rattle.mc_generate.specs.Generated as spec;
 
 use crate::draws::draw;

@@ -10,7 +10,7 @@ use crate::acceptance::accepted_code;
 use crate::{Shrinker, Tester};
 use mc_protocol::{Actor, OutOfMemory, Sections};
 use mc_script::{Script, without};
-use mc_verify::Checked;
+use mc_sound::Checked;
 use std::alloc::Global;
 
 /// A smaller script whose run has no explanation either, as the tester says. Once from the last step to the first, of B,

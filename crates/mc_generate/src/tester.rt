@@ -1,7 +1,7 @@
 //! What tells whether smaller scripts are still unexplained.
 
 use mc_protocol::OutOfMemory;
-use mc_verify::Checked;
+use mc_sound::Checked;
 
 /// Runs the code of smaller scripts while a script is shrunk.
 pub trait Tester {

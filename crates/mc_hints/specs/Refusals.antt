@@ -1,8 +1,6 @@
 -- What is written if an input is refused.
 use Rattle.std.specs.Prelude.{◌≡◌, ℕ, Bool, false, List, [], ◌++◌, codes, decimal, flat_map}
-use Rattle.mc_protocol.specs.Words.{actor_word, class_word}
-use Rattle.mc_protocol.specs.declared.actor.Actor.{Actor}
-use Rattle.mc_protocol.specs.declared.reply.Class.{Class}
+use Rattle.mc_protocol.specs.{Words.actor_word, Words.class_word, declared.actor.Actor.Actor, declared.reply.Class.Class}
 use Rattle.mc_model.specs.Kinds as history_kinds
 use Rattle.mc_model.specs.declared.rules.HistoryKind.{HistoryKind}
 use Rattle.mc_history.specs.StepKinds as steps_kinds
@@ -12,15 +10,13 @@ use Rattle.mc_code.specs.AsmKinds as asm_kinds
 use Rattle.mc_image.specs.ImageKinds as image_kinds
 use Rattle.mc_code.specs.declared.fault.AsmFault.{AsmFault}
 use Rattle.mc_code.specs.declared.fault.AsmFault.TheVariants as asm_fault
-use Rattle.mc_verify.specs.Refusals as code_kinds
+use Rattle.mc_sound.specs.LeastFaults as code_kinds
 use Rattle.mc_verify.specs.Refusals.{Refusal}
-use Rattle.mc_verify.specs.declared.refusal.RefusalKind.{RefusalKind}
-use Rattle.mc_verify.specs.declared.refusal.RefusalKind.TheVariants as kind
-use Rattle.mc_hints.specs.declared.refusal.Location.{Location}
+use Rattle.mc_sound.specs.declared.refusal_kind.RefusalKind.{RefusalKind}
+use Rattle.mc_sound.specs.declared.refusal_kind.RefusalKind.TheVariants as kind
+use Rattle.mc_hints.specs.{declared.refusal.Location.Location, declared.refused.LoadFault.LoadFault, declared.refused.Refused.Refused}
 use Rattle.mc_hints.specs.declared.refusal.Location.TheVariants as location
-use Rattle.mc_hints.specs.declared.refused.LoadFault.{LoadFault}
 use Rattle.mc_hints.specs.declared.refused.LoadFault.TheVariants as load_fault
-use Rattle.mc_hints.specs.declared.refused.Refused.{Refused}
 use Rattle.mc_hints.specs.declared.refused.Refused.TheVariants as refused
 
 -- where the fault is

@@ -5,7 +5,7 @@ ghost use Rattle.mc_hints.specs.Refusals as refusals;
 use crate::refused::{LoadFault, Refused};
 use mc_code::AsmFault;
 use mc_protocol::{Actor, Class, FaultKind, append_all};
-use mc_verify::RefusalKind;
+use mc_sound::RefusalKind;
 use std::alloc::{AllocError, Global};
 
 /// Where in the input the fault is.

@@ -1,18 +1,13 @@
 -- The lines of a claim: what follows `explain` is what is read of it, line by line.
 use Rattle.std.proofs.Common.{◌≡◌, ◌≢◌, ℕ, true, false, Option, Some, None, inl, inr, List, [], ◌∷◌, ◌++◌, codes, map}
 use Rattle.std.proofs.Common.{refl, sym, ap, ap₂, subst, ◌∙◌, append_assoc}
-use Rattle.std.specs.List.{list_any}
-use Rattle.std.specs.Str.{bytes_eq}
 use Rattle.std.proofs.lemmas.Bool.{false_from_ne_true}
-use Rattle.mc_protocol.specs.Lines.{Word, Words}
-use Rattle.mc_protocol.specs.Spelling.{SpellEach}
-use Rattle.mc_protocol.proofs.ActorWords.{actor_is_not_end}
-use Rattle.mc_protocol.proofs.FirstItems.{head_is, rest_is}
-use Rattle.mc_history.specs.declared.explanation.Move.{Move}
-use Rattle.mc_history.specs.Claim.{Claim}
-use Rattle.mc_history.specs.Distinct.{IsAbsent, AreDistinct}
+use Rattle.std.specs.{List.list_any, Str.bytes_eq}
+use Rattle.mc_protocol.specs.{Lines.Word, Lines.Words, Spelling.SpellEach}
+use Rattle.mc_protocol.proofs.{ActorWords.actor_is_not_end, FirstItems.head_is, FirstItems.rest_is}
 use Rattle.mc_history.specs.HistoryText.{SpellsStart, SpellsMove, SpellsTail, end_line, explain_line}
 use Rattle.mc_history.specs.Parts.{moves, starts, AfterMoves, AfterStarts, SpellsMoves, SpellsStarts}
+use Rattle.mc_history.specs.{declared.explanation.Move.Move, Claim.Claim, Distinct.IsAbsent, Distinct.AreDistinct}
 use Rattle.mc_history.proofs.Arrow.{bytes_same}
 use Rattle.mc_history.proofs.LineLemmas.{one_start, one_move, actor_is_not_start, start_is_not_end, end_is_not_explain}
 use Rattle.mc_history.proofs.Reading.{IsReadable, Along, after, after_listed, along_freely, series_of, parts_of, one_series}

@@ -1,19 +1,14 @@
 -- The lines of a history's requests and of its notes: what a text spells is what is read of it, line by line.
 use Rattle.std.proofs.Common.{◌≡◌, ◌↔◌, true, Option, Some, None, ℕ, List, [], ◌∷◌, ◌++◌, get_or, refl, sym, ap, subst, ◌∙◌, append_assoc, arith}
-use Rattle.mc_protocol.specs.declared.lines.Separator.TheVariants.{Space}
-use Rattle.mc_protocol.specs.Lines.{words_of_text, Words}
+use Rattle.mc_protocol.specs.{declared.lines.Separator.TheVariants.Space, Lines.words_of_text, Lines.Words}
 use Rattle.mc_protocol.proofs.FirstItems.{head_is, rest_is}
-use Rattle.mc_model.specs.Sections.{Sections, with_sent, no_sections}
-use Rattle.mc_model.specs.History.{is_history, comes_late}
 use Rattle.mc_model.specs.Notes.{Noted, History, IsHistory, with_notes, without_notes, is_record}
-use Rattle.mc_model.proofs.Faults.{no_fault, no_fault_of}
-use Rattle.mc_model.proofs.NoteFaults.{record_shorter, no_fault_within}
-use Rattle.mc_history.specs.declared.lines.Version.{Version}
-use Rattle.mc_history.specs.declared.lines.Version.TheVariants as version
-use Rattle.mc_history.specs.Claim.{Claim}
-use Rattle.mc_history.specs.Turns.{Turn}
+use Rattle.mc_model.specs.{Sections.Sections, Sections.with_sent, Sections.no_sections, History.is_history, History.comes_late}
+use Rattle.mc_model.proofs.{Faults.no_fault, Faults.no_fault_of, NoteFaults.record_shorter, NoteFaults.no_fault_within}
 use Rattle.mc_history.specs.HistoryText.{SpellsSent, SpellsNoted, SpellsTail, SpellsHistory, SpellsOneHistory, with_turns, requests_header, notes_header}
 use Rattle.mc_history.specs.Parts.{turns, notes, AfterBody, SpellsOn, header_of}
+use Rattle.mc_history.specs.{declared.lines.Version.Version, Claim.Claim, Turns.Turn}
+use Rattle.mc_history.specs.declared.lines.Version.TheVariants as version
 use Rattle.mc_history.proofs.Reading.{IsReadable, Along, after, after_listed, series_of, parts_of, one_series}
 use Rattle.mc_history.proofs.LineLemmas.{one_line, one_sent, one_noted, no_tail_at_actor, no_tail_of_nothing}
 use Rattle.mc_history.proofs.ClaimLines.{one_tail}

@@ -1,7 +1,6 @@
 -- Lines that each spell an item, one line further on; and how a text's definition says the same of all lines.
 use Rattle.std.proofs.Common.{◌≡◌, ◌↔◌, inl, inr, List, [], ◌∷◌, ◌++◌, refl, sym, ap, subst, ◌∙◌, append_assoc, append-nil}
-use Rattle.mc_protocol.specs.Lines.{Words}
-use Rattle.mc_protocol.specs.Spelling.{SpellEach}
+use Rattle.mc_protocol.specs.{Lines.Words, Spelling.SpellEach}
 use Rattle.mc_history.specs.Series.{Form, Series, listed}
 
 -- a line tells its item, and whether it is one of the series; `V` is what the whole text spells

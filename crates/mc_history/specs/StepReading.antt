@@ -2,12 +2,10 @@
 -- they say of a part what `StepText.antt` says of the whole.
 use Rattle.std.specs.Prelude.{◌≡◌, ◌<◌, ◌≤◌, List, [], ◌∷◌, length}
 use Rattle.mc_protocol.specs.declared.{actor.Actor.Actor, fault.Fault.Fault}
-use Rattle.mc_protocol.specs.Decimals.{SpellsNumber, MAX_64}
-use Rattle.mc_protocol.specs.Faults.{fault_number}
-use Rattle.mc_protocol.specs.Lines.{Word, Words}
+use Rattle.mc_protocol.specs.{Decimals.SpellsNumber, Decimals.MAX_64, Faults.fault_number, Lines.Word, Lines.Words}
 use Rattle.mc_history.specs.declared.{event.Event.Event, step_text.TheConstants.STEP_LIST_LIMIT}
-use Rattle.mc_history.specs.{HistoryText.end_line, StepText.SpellsStep}
 use Rattle.mc_history.specs.Series.{Form, Series, listed}
+use Rattle.mc_history.specs.{HistoryText.end_line, StepText.SpellsStep}
 
 -- the words after `fail`: the number of the fault alone
 abbrev pub SpellsFault : Words → Fault → Type 0

@@ -1,11 +1,8 @@
 //! Reads the text of a step list.
 ghost use Rattle.std.specs.Prelude.{◌≡◌, ◌≢◌, ◌≤◌, ◌↔◌, List, [], ◌∷◌, IfOk, IfErr, OnOk};
-ghost use Rattle.mc_protocol.specs.declared.actor.Actor.{Actor};
-ghost use Rattle.mc_protocol.specs.Lines.{Words};
+ghost use Rattle.mc_protocol.specs.{declared.actor.Actor.Actor, Lines.Words};
 ghost use Rattle.mc_history.specs.StepText.{SpellsSteps, steps_line};
-ghost use Rattle.mc_history.specs.Refuses.{Refuses};
-ghost use Rattle.mc_history.specs.StepReading.{SpellsOnward};
-ghost use Rattle.mc_history.specs.declared.event.Event.{Event};
+ghost use Rattle.mc_history.specs.{Refuses.Refuses, StepReading.SpellsOnward, declared.event.Event.Event};
 
 use crate::lines::{finish, next_due};
 use crate::step_lines::read_step;

@@ -1,32 +1,25 @@
 -- The whole image: what is read was written, and is code; and the image of code is read again.
 use Rattle.std.proofs.Common.{◌≡◌, ℕ, ◌≤◌, ◌==◌, Bool, true, false, not, Some, None, List, [], ◌∷◌, ◌++◌}
 use Rattle.std.proofs.Common.{length, All, cond, refl, sym, ap, subst, ◌∙◌, append_assoc, arith}
+use Rattle.std.proofs.{lemmas.List.append-nil, lemmas.Slice.Eq.bytes_eq-Decides}
 use Rattle.std.specs.Str.{bytes_eq}
-use Rattle.std.proofs.lemmas.List.{append-nil}
-use Rattle.std.proofs.lemmas.Slice.Eq.{bytes_eq-Decides}
-use Rattle.mc_protocol.specs.declared.actor.Actor.{Actor}
-use Rattle.mc_protocol.specs.declared.actor.Actor.TheVariants as actor
-use Rattle.mc_protocol.specs.declared.sections.Sections.{Sections}
-use Rattle.mc_protocol.specs.Sections as sections
 use Rattle.mc_protocol.specs.declared.limits.TheConstants.{KEYS_LIMIT, KEY_BYTES_LIMIT, REQUESTS_LIMIT, REQUEST_BYTES_LIMIT}
-use Rattle.mc_script.specs.declared.limits.TheConstants.{VARIABLES_LIMIT}
-use Rattle.mc_script.specs.declared.section.Budget.{Budget}
-use Rattle.mc_script.specs.declared.version.Version.{Version}
-use Rattle.mc_script.specs.declared.version.Version.TheVariants as version
-use Rattle.mc_script.specs.Script.{may_be_declared}
+use Rattle.mc_protocol.specs.{declared.actor.Actor.Actor, declared.sections.Sections.Sections}
+use Rattle.mc_protocol.specs.declared.actor.Actor.TheVariants as actor
+use Rattle.mc_protocol.specs.Sections as sections
 use Rattle.mc_script.specs.Chains.{◌>>=◌}
-use Rattle.mc_script.specs.Versions.{flags_limit, steps_limit}
-use Rattle.mc_code.specs.declared.instr.Instr.{Instr}
-use Rattle.mc_code.specs.Code.{IsInstr, Section, IsSection, Code, IsCode}
+use Rattle.mc_script.specs.{declared.limits.TheConstants.VARIABLES_LIMIT, declared.section.Budget.Budget, declared.version.Version.Version}
+use Rattle.mc_script.specs.{Script.may_be_declared, Versions.flags_limit, Versions.steps_limit}
+use Rattle.mc_script.specs.declared.version.Version.TheVariants as version
+use Rattle.mc_code.specs.{declared.instr.Instr.Instr, Code.IsInstr, Code.Section, Code.IsSection, Code.Code, Code.IsCode}
 use Rattle.mc_image.specs.Image.{magic, with_length, with_count, budget_bytes, template_bytes, instr_bytes}
 use Rattle.mc_image.specs.Image.{section_bytes, image_in, IsWithin, IsImageOf, ImagesAreOfOneCode}
 use Rattle.mc_image.specs.ImageReading.{Field, bytes_in, small_in, keys_in, budget_in, templates_in, instructions_in, version_at}
 use Rattle.mc_image.specs.ImageReading.{version_in, Declared, declared_in, each_in, code_of, at_end, code_in}
 use Rattle.mc_image.proofs.FieldLaws.{then-some, some-same, IsBytes, Takes, Takes-then, bytes_take, bytes_again, small_takes, small_again}
 use Rattle.mc_image.proofs.ImageRoom.{flags-within, steps-within, room-in, is-within}
-use Rattle.mc_image.proofs.KeyLaws.{keys_take, keys_again}
-use Rattle.mc_image.proofs.TemplateLaws.{templates_take, templates_again}
 use Rattle.mc_image.proofs.SectionLaws.{budget_takes, budget_again, instructions_take, instructions_again}
+use Rattle.mc_image.proofs.{KeyLaws.keys_take, KeyLaws.keys_again, TemplateLaws.templates_take, TemplateLaws.templates_again}
 
 -- ---- the first bytes
 

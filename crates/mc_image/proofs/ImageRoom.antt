@@ -2,18 +2,13 @@
 use Rattle.std.proofs.Common.{◌≡◌, ◌⊎◌, inl, inr, ℕ, ◌^◌, ◌<◌, ◌≤◌, Bool, true, false, cond, leb, List, [], ◌∷◌, length, max, All, refl, sym, subst, arith}
 use Rattle.std.proofs.lemmas.Bool.{cases_lt, leb-true, le-leb, and_parts, and_from}
 use Rattle.std.proofs.lemmas.List.Elements.{All-nil, All-cons, All-head, All-tail}
-use Rattle.std.proofs.lemmas.Nat.{pow_below}
-use Rattle.std.proofs.Math.Nat.{le-max_left, le-max_right, max-le}
+use Rattle.std.proofs.{lemmas.Nat.pow_below, Math.Nat.le-max_left, Math.Nat.le-max_right, Math.Nat.max-le}
 use Rattle.mc_protocol.specs.Fields.{fields_of}
 use Rattle.mc_protocol.specs.declared.actor.Actor.TheVariants as actor
-use Rattle.mc_script.specs.declared.limits.TheConstants.{FLAGS_LIMIT}
-use Rattle.mc_script.specs.declared.step.Template.{Template}
-use Rattle.mc_script.specs.declared.version.Version.{Version}
-use Rattle.mc_script.specs.declared.version.Version.TheVariants as version
-use Rattle.mc_script.specs.Templates.{IsTemplate}
 use Rattle.mc_script.specs.Versions.{flags_limit, steps_limit, has_room}
-use Rattle.mc_code.specs.declared.limits.TheConstants.{INSTRUCTIONS_LIMIT}
-use Rattle.mc_code.specs.Code.{Code, IsCode, longest}
+use Rattle.mc_script.specs.{declared.limits.TheConstants.FLAGS_LIMIT, declared.step.Template.Template, declared.version.Version.Version, Templates.IsTemplate}
+use Rattle.mc_script.specs.declared.version.Version.TheVariants as version
+use Rattle.mc_code.specs.{declared.limits.TheConstants.INSTRUCTIONS_LIMIT, Code.Code, Code.IsCode, Code.longest}
 use Rattle.mc_image.specs.Image.{version_of, image_in, IsWithin, CodesHaveImages, ImagesAreWrittenAgain}
 use Rattle.mc_image.specs.ImageWriting.{FitsMask, FitsImage}
 use Rattle.mc_image.proofs.TemplateFields.{fields-suit}

@@ -1,10 +1,8 @@
 -- Items after their number: what is read was written, and what was written is read again.
 use Rattle.std.proofs.Common.{◌≡◌, ℕ, zero, suc, ◌≤◌, Some, List, [], ◌∷◌, ◌++◌, length, refl, sym, ap, subst, ◌∙◌, append_assoc}
+use Rattle.std.proofs.{lemmas.List.append-nil, lemmas.List.Concat.flat_map-cons}
 use Rattle.std.specs.List.{flat_map}
-use Rattle.std.proofs.lemmas.List.{append-nil}
-use Rattle.std.proofs.lemmas.List.Concat.{flat_map-cons}
-use Rattle.mc_image.specs.Image.{with_count}
-use Rattle.mc_image.specs.ImageReading.{Field, small_in, items_in, counted_in}
+use Rattle.mc_image.specs.{Image.with_count, ImageReading.Field, ImageReading.small_in, ImageReading.items_in, ImageReading.counted_in}
 use Rattle.mc_image.proofs.FieldLaws.{then-some, some-same, IsBytes, Takes, Takes-then, small_takes, small_again}
 
 -- an item is read where it was written, and keeps what the items keep

@@ -1,17 +1,12 @@
 -- Keys: what is read was written, and may be declared; and what was written is read again.
 use Rattle.std.proofs.Common.{◌≡◌, ℕ, ◌≤◌, ◌==◌, true, false, leb, not, ◌&&◌, Some, List, [], ◌∷◌, ◌++◌, length, refl, sym, subst, ◌∙◌, arith}
-use Rattle.std.specs.List.{list_all, list_any}
-use Rattle.std.specs.Str.{bytes_eq}
 use Rattle.std.proofs.lemmas.Bool.{leb-true, le-leb, not-true, not_from_false, false_from_ne_true, both_ways, or_parts, or_from, and_parts, and_from}
-use Rattle.std.proofs.lemmas.Bool.Decides.{nat_tests}
-use Rattle.std.proofs.lemmas.List.Folds.{list_all-append}
-use Rattle.std.proofs.lemmas.Slice.Eq.{bytes_eq-Decides}
+use Rattle.std.proofs.{lemmas.Bool.Decides.nat_tests, lemmas.List.Folds.list_all-append, lemmas.Slice.Eq.bytes_eq-Decides}
+use Rattle.std.specs.{List.list_all, List.list_any, Str.bytes_eq}
 use Rattle.mc_protocol.specs.declared.limits.TheConstants.{KEYS_LIMIT, KEY_BYTES_LIMIT}
+use Rattle.mc_protocol.specs.{Names.is_name, Names.is_new, Names.are_distinct, Names.are_name_bytes, Lines.Word}
 use Rattle.mc_script.specs.Script.{may_be_declared}
-use Rattle.mc_protocol.specs.Names.{is_name, is_new, are_distinct, are_name_bytes}
-use Rattle.mc_protocol.specs.Lines.{Word}
-use Rattle.mc_image.specs.Image.{with_length, with_count}
-use Rattle.mc_image.specs.ImageReading.{bytes_in, small_in, key_in, keys_in}
+use Rattle.mc_image.specs.{Image.with_length, Image.with_count, ImageReading.bytes_in, ImageReading.small_in, ImageReading.key_in, ImageReading.keys_in}
 use Rattle.mc_image.proofs.FieldLaws.{then-some, only-then, some-same, IsBytes, Takes, Takes-then, small_takes, small_again, bytes_take, bytes_again}
 use Rattle.mc_image.proofs.ItemLaws.{IsItem, counted_takes, counted_again}
 

@@ -1,23 +1,18 @@
 -- Budgets and instructions: what is read was written, and keeps the limits; and what was written is read again.
 use Rattle.std.proofs.Common.{◌≡◌, ℕ, zero, suc, ◌^◌, ◌≤◌, leb, Some, List, [], ◌∷◌, ◌++◌, length, All, refl, subst, sym, arith}
-use Rattle.std.specs.Int.{w16, to_be_bytes}
 use Rattle.std.proofs.lemmas.Bool.{leb-true, le-leb}
 use Rattle.std.proofs.lemmas.List.Elements.{All-nil, All-push, All-from_get_or}
+use Rattle.std.specs.Int.{w16, to_be_bytes}
 use Rattle.mc_protocol.specs.declared.limits.TheConstants.{REQUESTS_LIMIT, REQUEST_BYTES_LIMIT}
-use Rattle.mc_script.specs.declared.section.Budget.{Budget}
-use Rattle.mc_script.specs.declared.version.Version.{Version}
 use Rattle.mc_script.specs.Chains.{◌>>=◌}
-use Rattle.mc_script.specs.Versions.{steps_limit}
-use Rattle.mc_code.specs.declared.instr.Instr.{Instr}
+use Rattle.mc_script.specs.{declared.section.Budget.Budget, declared.version.Version.Version, Versions.steps_limit}
+use Rattle.mc_code.specs.{declared.instr.Instr.Instr, declared.limits.TheConstants.CLASS_COUNT, Code.is_byte, Code.IsInstr}
 use Rattle.mc_code.specs.declared.instr.Instr.TheVariants as instr
-use Rattle.mc_code.specs.declared.limits.TheConstants.{CLASS_COUNT}
-use Rattle.mc_code.specs.Code.{is_byte, IsInstr}
 use Rattle.mc_image.specs.Image.{budget_bytes, instr_bytes, with_count}
 use Rattle.mc_image.specs.ImageReading.{bytes_in, byte_in, number_in, small_in, budget_in, send_in, bind_in, goto_in, after_sort, instr_in, instructions_in}
 use Rattle.mc_image.proofs.FieldLaws.{then-some, only-then, some-same, IsBytes, Takes, Takes-then, bytes_take, bytes_again, byte_takes}
 use Rattle.mc_image.proofs.FieldLaws.{byte_again, wide16, number_takes, number_again, small_takes, small_again}
-use Rattle.mc_image.proofs.ItemLaws.{IsItem, counted_takes, counted_again}
-use Rattle.mc_image.proofs.TemplateLaws.{middle}
+use Rattle.mc_image.proofs.{ItemLaws.IsItem, ItemLaws.counted_takes, ItemLaws.counted_again, TemplateLaws.middle}
 
 -- ---- budgets
 

@@ -1,27 +1,20 @@
 -- The fields of a template: what is read was written, and what was written is read again.
 use Rattle.std.proofs.Common.{◌≡◌, ℕ, zero, suc, ◌+◌, ◌^◌, ◌<◌, ◌≤◌, true, ltb, leb, eqb, ◌&&◌, Option, Some, List}
 use Rattle.std.proofs.Common.{[], ◌∷◌, ◌++◌, length, slice_get, refl, sym, ap, subst, ◌∙◌, append_assoc, arith}
-use Rattle.std.specs.Int.{w64, to_be_bytes}
 use Rattle.std.proofs.lemmas.Bool.{ltb-true, lt-ltb, leb-true, eqb-true, and_parts}
-use Rattle.mc_protocol.specs.declared.request.Fields.{Fields}
-use Rattle.mc_protocol.specs.declared.request.Fields.TheVariants as fields
-use Rattle.mc_protocol.specs.declared.request.Verb.{Verb}
-use Rattle.mc_protocol.specs.declared.request.Verb.TheVariants as verb
-use Rattle.mc_protocol.specs.Words.{all_verbs}
-use Rattle.mc_script.specs.declared.limits.TheConstants.{VARIABLES_LIMIT}
+use Rattle.std.specs.Int.{w64, to_be_bytes}
 use Rattle.mc_protocol.specs.declared.limits.TheConstants.{SCRIPT_BODY_LIMIT}
-use Rattle.mc_script.specs.declared.step.Argument.{Argument}
-use Rattle.mc_script.specs.declared.step.Argument.TheVariants as argument
-use Rattle.mc_protocol.specs.Decimals.{MAX_32, MAX_64}
-use Rattle.mc_script.specs.ScriptWords.{is_body, are_body_bytes}
-use Rattle.mc_script.specs.declared.version.Version.{Version}
+use Rattle.mc_protocol.specs.{declared.request.Fields.Fields, declared.request.Verb.Verb, Words.all_verbs, Decimals.MAX_32, Decimals.MAX_64}
+use Rattle.mc_protocol.specs.declared.request.Fields.TheVariants as fields
+use Rattle.mc_protocol.specs.declared.request.Verb.TheVariants as verb
 use Rattle.mc_script.specs.Chains.{◌>>=◌}
 use Rattle.mc_script.specs.Templates.{is_nothing, is_variable, is_amount, is_empty, has_fields}
-use Rattle.mc_script.specs.Versions.{flags_limit}
-use Rattle.mc_image.specs.declared.read_template.Masks.{Masks}
+use Rattle.mc_script.specs.{declared.limits.TheConstants.VARIABLES_LIMIT, declared.step.Argument.Argument, ScriptWords.is_body, ScriptWords.are_body_bytes}
+use Rattle.mc_script.specs.{declared.version.Version.Version, Versions.flags_limit}
+use Rattle.mc_script.specs.declared.step.Argument.TheVariants as argument
 use Rattle.mc_image.specs.Image.{verb_index, argument_bytes, mask_width, mask_bytes}
 use Rattle.mc_image.specs.ImageReading.{byte_in, number_in, small_in, verb_at, verb_in, argument_of, argument_in, mask_in, masks_in}
-use Rattle.mc_image.specs.ImageWriting.{FitsMask}
+use Rattle.mc_image.specs.{declared.read_template.Masks.Masks, ImageWriting.FitsMask}
 use Rattle.mc_image.proofs.FieldLaws.{then-some, only-then, some-same, IsBytes, Takes, Takes-then, byte_takes, byte_again}
 use Rattle.mc_image.proofs.FieldLaws.{wide64, wide-mask, number_takes, number_again, small_takes, small_again}
 

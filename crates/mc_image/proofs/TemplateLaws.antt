@@ -1,19 +1,12 @@
 -- Templates: what is read was written, and may stand; and what was written is read again.
 use Rattle.std.proofs.Common.{◌≡◌, ℕ, ◌^◌, ◌<◌, ◌≤◌, true, ltb, eqb, ◌&&◌, Option, Some, None, List, []}
 use Rattle.std.proofs.Common.{◌∷◌, ◌++◌, length, All, refl, ap, subst, ◌∙◌, append_assoc, arith}
-use Rattle.std.specs.Int.{w32, to_be_bytes}
-use Rattle.std.specs.Int.Bits.{bit_and}
 use Rattle.std.proofs.lemmas.Bool.{ltb-true, lt-ltb, eqb-true, eq-eqb, and_parts}
 use Rattle.std.proofs.lemmas.List.Elements.{All-nil, All-push, All-head, All-tail}
-use Rattle.mc_protocol.specs.Fields.{fields_of}
-use Rattle.mc_protocol.specs.declared.request.Verb.{Verb}
-use Rattle.mc_script.specs.declared.limits.TheConstants.{VARIABLES_LIMIT}
-use Rattle.mc_protocol.specs.declared.limits.TheConstants.{SCRIPT_BODY_LIMIT}
-use Rattle.mc_script.specs.declared.step.Argument.{Argument}
-use Rattle.mc_script.specs.declared.step.Template.{Template}
-use Rattle.mc_script.specs.declared.version.Version.{Version}
-use Rattle.mc_script.specs.Templates.{has_fields, IsTemplate}
-use Rattle.mc_script.specs.Versions.{flags_limit}
+use Rattle.std.specs.{Int.w32, Int.to_be_bytes, Int.Bits.bit_and}
+use Rattle.mc_protocol.specs.{Fields.fields_of, declared.request.Verb.Verb, declared.limits.TheConstants.SCRIPT_BODY_LIMIT}
+use Rattle.mc_script.specs.{declared.limits.TheConstants.VARIABLES_LIMIT, declared.step.Argument.Argument, declared.step.Template.Template}
+use Rattle.mc_script.specs.{declared.version.Version.Version, Templates.has_fields, Templates.IsTemplate, Versions.flags_limit}
 use Rattle.mc_code.specs.declared.limits.TheConstants.{TEMPLATES_LIMIT}
 use Rattle.mc_image.specs.declared.read_template.Masks.{Masks}
 use Rattle.mc_image.specs.Image.{verb_index, argument_bytes, masks_bytes, template_bytes, with_length, with_count}
@@ -21,9 +14,8 @@ use Rattle.mc_image.specs.ImageReading.{byte_in, number_in, sized_in, verb_in, a
 use Rattle.mc_image.specs.ImageReading.{are_masks, is_template, template_if_valid, template_in, templates_in}
 use Rattle.mc_image.proofs.FieldLaws.{then-some, only-then, some-same, IsBytes, Takes, Takes-then, byte_takes, byte_again}
 use Rattle.mc_image.proofs.FieldLaws.{wide32, number_takes, number_again, sized_takes, sized_again}
-use Rattle.mc_image.proofs.ItemLaws.{IsItem, counted_takes, counted_again}
-use Rattle.mc_image.proofs.ImageRoom.{mask-fits}
 use Rattle.mc_image.proofs.TemplateFields.{verb_takes, verb_again, argument_takes, argument_again, masks_text, masks_take, masks_again, fields-suit}
+use Rattle.mc_image.proofs.{ItemLaws.IsItem, ItemLaws.counted_takes, ItemLaws.counted_again, ImageRoom.mask-fits}
 
 -- ---- the test
 

@@ -1,8 +1,7 @@
 -- Images that are written: the pieces that make a template, and those that make an image.
 use Rattle.std.proofs.Common.{◌≡◌, ℕ, List, [], ◌∷◌, ◌++◌, length, ap, ◌∙◌, append-nil, append_assoc}
 use Rattle.std.specs.Int.{w32, w64, to_be_bytes}
-use Rattle.mc_script.specs.declared.step.Template.{Template}
-use Rattle.mc_script.specs.declared.version.Version.{Version}
+use Rattle.mc_script.specs.{declared.step.Template.Template, declared.version.Version.Version}
 use Rattle.mc_code.specs.Code.{Code}
 use Rattle.mc_image.specs.Image.{magic, with_length, with_count, budget_bytes, verb_index, argument_bytes}
 use Rattle.mc_image.specs.Image.{mask_bytes, masks_bytes, template_bytes, section_bytes, image_in}

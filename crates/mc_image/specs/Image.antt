@@ -1,19 +1,14 @@
 -- The images of code: their bytes, field by field, in each version. Numbers of more than a byte are big endian.
 use Rattle.std.specs.Prelude.{◌≡◌, ◌⊎◌, ℕ, true, List, [], ◌∷◌, ◌++◌, length, codes}
-use Rattle.std.specs.List.{flat_map}
-use Rattle.std.specs.Int.{Width, w16, w32, w64, to_be_bytes}
+use Rattle.std.specs.{List.flat_map, Int.Width, Int.w16, Int.w32, Int.w64, Int.to_be_bytes}
 use Rattle.mc_protocol.specs.declared.request.Verb.{Verb}
 use Rattle.mc_protocol.specs.declared.request.Verb.TheVariants as verb
-use Rattle.mc_script.specs.declared.section.Budget.{Budget}
-use Rattle.mc_script.specs.declared.step.Argument.{Argument}
+use Rattle.mc_script.specs.{declared.section.Budget.Budget, declared.step.Argument.Argument, declared.step.Template.Template}
+use Rattle.mc_script.specs.{declared.version.Version.Version, Versions.has_room, Versions.least_version}
 use Rattle.mc_script.specs.declared.step.Argument.TheVariants as argument
-use Rattle.mc_script.specs.declared.step.Template.{Template}
-use Rattle.mc_script.specs.declared.version.Version.{Version}
 use Rattle.mc_script.specs.declared.version.Version.TheVariants as version
-use Rattle.mc_script.specs.Versions.{has_room, least_version}
-use Rattle.mc_code.specs.declared.instr.Instr.{Instr}
+use Rattle.mc_code.specs.{declared.instr.Instr.Instr, Code.Section, Code.Code, Code.IsCode, Code.longest}
 use Rattle.mc_code.specs.declared.instr.Instr.TheVariants as instr
-use Rattle.mc_code.specs.Code.{Section, Code, IsCode, longest}
 
 -- ---- what the versions differ in, beside how many flags and instructions they have room for
 

@@ -2,35 +2,22 @@
 -- the proofs join the two.
 use Rattle.std.specs.Prelude.{◌≡◌, ◌≢◌, ℕ, zero, suc, ◌^◌, ◌==◌, nat_le, nat_lt, Bool, ◌&&◌, Option, Some, None, Result}
 use Rattle.std.specs.Prelude.{Ok, Err, List, [], ◌∷◌, ◌++◌, length, take, drop, slice_get, if◌then◌else◌}
-use Rattle.std.specs.Int.{Width, w16, w32, w64, byte_len, from_be_bytes}
-use Rattle.std.specs.Int.Bits.{bit_and}
-use Rattle.std.specs.Str.{bytes_eq}
-use Rattle.mc_protocol.specs.Fields.{fields_of}
-use Rattle.mc_protocol.specs.declared.request.Verb.{Verb}
+use Rattle.std.specs.{Int.Width, Int.w16, Int.w32, Int.w64, Int.byte_len, Int.from_be_bytes, Int.Bits.bit_and, Str.bytes_eq}
 use Rattle.mc_protocol.specs.declared.sections.Sections.{Sections}
 use Rattle.mc_protocol.specs.declared.limits.TheConstants.{KEYS_LIMIT, KEY_BYTES_LIMIT, REQUESTS_LIMIT}
 use Rattle.mc_protocol.specs.declared.limits.TheConstants.{REQUEST_BYTES_LIMIT, SCRIPT_BODY_LIMIT}
+use Rattle.mc_protocol.specs.{Fields.fields_of, declared.request.Verb.Verb, Names.is_new, Names.is_name, Lines.Word, Words.all_verbs}
 use Rattle.mc_script.specs.declared.limits.TheConstants.{VARIABLES_LIMIT}
-use Rattle.mc_script.specs.declared.section.Budget.{Budget}
-use Rattle.mc_script.specs.declared.step.Argument.{Argument}
-use Rattle.mc_script.specs.declared.step.Argument.TheVariants as argument
-use Rattle.mc_script.specs.declared.step.Template.{Template}
-use Rattle.mc_script.specs.declared.version.Version.{Version}
-use Rattle.mc_script.specs.declared.version.Version.TheVariants as version
-use Rattle.mc_script.specs.Versions.{flags_limit, steps_limit}
-use Rattle.mc_protocol.specs.Names.{is_new, is_name}
-use Rattle.mc_protocol.specs.Lines.{Word}
-use Rattle.mc_protocol.specs.Words.{all_verbs}
 use Rattle.mc_script.specs.Chains.{◌>>=◌}
-use Rattle.mc_script.specs.Templates.{has_fields}
-use Rattle.mc_image.specs.declared.fault.ImageFault.{ImageFault}
+use Rattle.mc_script.specs.{declared.section.Budget.Budget, declared.step.Argument.Argument, declared.step.Template.Template}
+use Rattle.mc_script.specs.{declared.version.Version.Version, Versions.flags_limit, Versions.steps_limit, Templates.has_fields}
+use Rattle.mc_script.specs.declared.step.Argument.TheVariants as argument
+use Rattle.mc_script.specs.declared.version.Version.TheVariants as version
+use Rattle.mc_image.specs.{declared.fault.ImageFault.ImageFault, declared.read_template.Masks.Masks, Image.magic, Image.mask_width}
 use Rattle.mc_image.specs.declared.fault.ImageKind.TheVariants as kind
-use Rattle.mc_code.specs.declared.instr.Instr.{Instr}
-use Rattle.mc_code.specs.declared.instr.Instr.TheVariants as instr
-use Rattle.mc_image.specs.declared.read_template.Masks.{Masks}
 use Rattle.mc_code.specs.declared.limits.TheConstants.{TEMPLATES_LIMIT, CLASS_COUNT}
-use Rattle.mc_code.specs.Code.{Section, Code}
-use Rattle.mc_image.specs.Image.{magic, mask_width}
+use Rattle.mc_code.specs.{declared.instr.Instr.Instr, Code.Section, Code.Code}
+use Rattle.mc_code.specs.declared.instr.Instr.TheVariants as instr
 
 -- the result, seen through `view`, is what is read; the call takes no memory
 abbrev pub Reads : {X Y : Type 0} → (X → Y) → Result X ImageFault → Option Y → Type 0

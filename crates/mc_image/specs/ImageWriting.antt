@@ -1,9 +1,7 @@
 -- What the writer of images asks of a template. No public contract cites it: well-formed code has such templates alone.
 use Rattle.std.specs.Prelude.{ℕ, ◌<◌, ◌≤◌, ◌^◌, length}
 use Rattle.mc_protocol.specs.declared.limits.TheConstants.{SCRIPT_BODY_LIMIT}
-use Rattle.mc_script.specs.declared.step.Template.{Template}
-use Rattle.mc_script.specs.declared.version.Version.{Version}
-use Rattle.mc_script.specs.Versions.{flags_limit}
+use Rattle.mc_script.specs.{declared.step.Template.Template, declared.version.Version.Version, Versions.flags_limit}
 
 -- the mask has a bit for a flag of the version alone
 abbrev pub FitsMask : Version → ℕ → Type 0

@@ -1,12 +1,10 @@
 //! Writes the image of code.
 ghost use Rattle.std.specs.Prelude.{◌≡◌, ◌≤◌, ◌∷◌, ◌++◌, length, OnOk, OnErr};
-ghost use Rattle.std.specs.List.{All};
-ghost use Rattle.std.specs.Int.{w64, to_be_bytes};
+ghost use Rattle.std.specs.{List.All, Int.w64, Int.to_be_bytes};
 ghost use Rattle.mc_protocol.specs.declared.limits.TheConstants.{REQUESTS_LIMIT, REQUEST_BYTES_LIMIT};
 ghost use Rattle.mc_code.specs.declared.limits.TheConstants.{INSTRUCTIONS_LIMIT, TEMPLATES_LIMIT};
 ghost use Rattle.mc_image.specs.Image as image;
-ghost use Rattle.mc_image.specs.Image.{image_of};
-ghost use Rattle.mc_image.specs.ImageWriting.{FitsImage, FitsMask};
+ghost use Rattle.mc_image.specs.{Image.image_of, ImageWriting.FitsImage, ImageWriting.FitsMask};
 
 use crate::image_version::magic;
 use mc_code::{Code, Instr};

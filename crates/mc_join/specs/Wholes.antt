@@ -1,7 +1,6 @@
 -- Parts of a campaign, and the whole of them.
 use Rattle.std.specs.Prelude.{◌==◌, ◌+◌, ◌&&◌, ℕ, Bool, true, List, [], ◌∷◌}
-use Rattle.mc_join.specs.declared.part.Part.{Part}
-use Rattle.mc_join.specs.declared.totals.Totals.{Totals}
+use Rattle.mc_join.specs.{declared.part.Part.Part, declared.totals.Totals.Totals}
 
 -- those of no jobs
 abbrev pub no_totals : Totals

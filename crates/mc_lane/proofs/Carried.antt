@@ -1,10 +1,8 @@
 -- What streams carry, one call after the other.
 use Rattle.std.specs.Prelude.{◌≡◌, ℕ, ◌+◌, ◌-◌, ◌≤◌, Option, Some, None, List, [], ◌++◌, length, take, drop}
 use Rattle.std.proofs.Common.{arith, append_assoc, append-nil, subst, sym, ap, ◌∙◌}
-use Rattle.std.proofs.Math.Seq.{take-add}
-use Rattle.std.proofs.lemmas.Grind.{common_steps}
-use Rattle.mc_lane.specs.Streams.{StreamState, no_counts, Grows, Carries}
-use Rattle.mc_lane.specs.declared.stream.Counts.{Counts}
+use Rattle.std.proofs.{Math.Seq.take-add, lemmas.Grind.common_steps}
+use Rattle.mc_lane.specs.{Streams.StreamState, Streams.no_counts, Streams.Grows, Streams.Carries, declared.stream.Counts.Counts}
 
 -- what is appended in two steps is appended in one
 pub appended_twice : (a b c : List ℕ) (xs ys : List ℕ) → b ≡ a ++ xs → c ≡ b ++ ys → c ≡ a ++ (xs ++ ys)

@@ -2,9 +2,7 @@
 use Rattle.std.specs.Prelude.{◌≡◌, ℕ, ◌+◌, ◌-◌, ◌<◌, ◌≤◌, List, [], ◌∷◌, ◌++◌, length, map, take, drop}
 use Rattle.std.specs.List.{concat}
 use Rattle.std.proofs.Common.{arith, append_assoc, ap, sym, ◌∙◌, get_or}
-use Rattle.std.proofs.Math.Seq.{take-add}
-use Rattle.std.proofs.lemmas.Grind.{common_steps}
-use Rattle.std.proofs.lemmas.List.{drop-map, drop_more}
+use Rattle.std.proofs.{Math.Seq.take-add, lemmas.Grind.common_steps, lemmas.List.drop-map, lemmas.List.drop_more}
 use Rattle.mc_lane.specs.MemoryStreams.{ends_from}
 
 -- what is left from one piece on begins with that piece

@@ -2,25 +2,15 @@
 use Rattle.std.specs.Prelude.{◌≡◌, ℕ, ◌+◌, ◌-◌, ◌<◌, ◌≤◌, true, Option, Some, None, Result, Ok, Err}
 use Rattle.std.specs.Prelude.{List, [], ◌++◌, length, take, drop, slice_range}
 use Rattle.std.proofs.Common.{arith, rules, refl, sym, ap, subst, ◌∙◌, append-nil}
-use Rattle.std.proofs.Math.Seq.{take-add}
 use Rattle.std.proofs.lemmas.List.{drop-drop, drop-append-le, drop_at, take-append-drop, take_at, length-drop}
-use Rattle.std.proofs.lemmas.Grind.{common_steps}
-use Rattle.mc_protocol.specs.Legal.{is_fit_for}
-use Rattle.mc_protocol.specs.Lines.{Word}
-use Rattle.mc_protocol.specs.declared.fault.Fault.{Fault}
+use Rattle.std.proofs.{Math.Seq.take-add, lemmas.Grind.common_steps}
+use Rattle.mc_protocol.specs.{Legal.is_fit_for, Lines.Word, declared.fault.Fault.Fault, declared.reply.Reply.Reply, declared.request.Verb.Verb}
 use Rattle.mc_protocol.specs.declared.fault.Fault.TheVariants as fault
-use Rattle.mc_protocol.specs.declared.reply.Reply.{Reply}
-use Rattle.mc_protocol.specs.declared.request.Verb.{Verb}
-use Rattle.mc_reader.specs.Reading.{IsAnswer, IsAnswerAfter}
-use Rattle.mc_reader.specs.Replies.{Spells, IsUnfinished}
-use Rattle.mc_reader.specs.declared.fault.ReadFault.{ReadFault}
+use Rattle.mc_reader.specs.{Reading.IsAnswer, Reading.IsAnswerAfter, Replies.Spells, Replies.IsUnfinished, declared.fault.ReadFault.ReadFault}
+use Rattle.mc_reader.specs.{declared.reader.Fed.Fed, declared.reader.Fed.TheVariants.More, declared.reader.Fed.TheVariants.Done}
 use Rattle.mc_reader.specs.declared.fault.ReadFault.TheVariants as read_fault
-use Rattle.mc_reader.specs.declared.reader.Fed.{Fed}
-use Rattle.mc_reader.specs.declared.reader.Fed.TheVariants.{More, Done}
-use Rattle.mc_lane.specs.Receiving.{Brings, Adds, Stops, fault_for}
-use Rattle.mc_lane.specs.Sending.{counts_of, EndsLast}
-use Rattle.mc_lane.specs.Streams.{StreamState, no_counts, an_end, finds_end, counts_of_read, Carries}
-use Rattle.mc_lane.specs.declared.stream.Counts.{Counts}
+use Rattle.mc_lane.specs.{Receiving.Brings, Receiving.Adds, Receiving.Stops, Receiving.fault_for, Sending.counts_of, Sending.EndsLast, Streams.StreamState}
+use Rattle.mc_lane.specs.{Streams.no_counts, Streams.an_end, Streams.finds_end, Streams.counts_of_read, Streams.Carries, declared.stream.Counts.Counts}
 use Rattle.mc_lane.proofs.Carried.{Grows-twice, appended_twice, range_from}
 
 -- ---- parts of what was received

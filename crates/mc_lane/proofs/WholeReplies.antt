@@ -2,17 +2,11 @@
 use Rattle.std.specs.Prelude.{◌≡◌, ℕ, ◌-◌, Result, Ok, Err, List, ◌++◌, drop, slice_range}
 use Rattle.std.proofs.Common.{refl, sym, ap, ◌∙◌}
 use Rattle.std.proofs.lemmas.List.{take-append-drop}
-use Rattle.mc_protocol.specs.Lines.{Word}
-use Rattle.mc_protocol.specs.declared.fault.Fault.{Fault}
+use Rattle.mc_protocol.specs.{Lines.Word, declared.fault.Fault.Fault, declared.reply.Reply.Reply, declared.request.Verb.Verb}
 use Rattle.mc_protocol.specs.declared.fault.Fault.TheVariants as fault
-use Rattle.mc_protocol.specs.declared.reply.Reply.{Reply}
-use Rattle.mc_protocol.specs.declared.request.Verb.{Verb}
-use Rattle.mc_reader.specs.Laws.{OneReply}
-use Rattle.mc_reader.specs.Replies.{Outcome, Spells, HasFailed}
-use Rattle.mc_reader.specs.declared.fault.ReadFault.{ReadFault}
+use Rattle.mc_reader.specs.{Laws.OneReply, Replies.Outcome, Replies.Spells, Replies.HasFailed, declared.fault.ReadFault.ReadFault}
 use Rattle.mc_reader.specs.declared.fault.ReadFault.TheVariants as read_fault
-use Rattle.mc_lane.specs.Lanes.{LaneRecord, ComesTo}
-use Rattle.mc_lane.specs.Laws.{IsAnswered, WholeReplyIsAnswered}
+use Rattle.mc_lane.specs.{Lanes.LaneRecord, Lanes.ComesTo, Laws.IsAnswered, Laws.WholeReplyIsAnswered}
 
 -- a text that begins with a whole reply has not failed
 not_failed : OneReply → (verb : Verb) (key : Word) (unread text rest : List ℕ) (reply : Reply) (f : ReadFault) → unread ≡ text ++ rest

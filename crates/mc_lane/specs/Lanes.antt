@@ -1,14 +1,10 @@
 -- What a lane shows, and what a call on it does.
 use Rattle.std.specs.Prelude.{◌≡◌, ℕ, ◌≤◌, Bool, Option, Some, None, is_none, MatchOption, IfSome, Result, Ok, Err, List, ◌++◌, length}
 use Rattle.std.specs.Result.{result_err}
-use Rattle.mc_protocol.specs.Lines.{Word}
-use Rattle.mc_protocol.specs.declared.fault.Fault.{Fault}
+use Rattle.mc_protocol.specs.{Lines.Word, declared.fault.Fault.Fault, declared.reply.Reply.Reply, declared.request.Verb.Verb}
 use Rattle.mc_protocol.specs.declared.fault.Fault.TheVariants as fault
-use Rattle.mc_protocol.specs.declared.reply.Reply.{Reply}
-use Rattle.mc_protocol.specs.declared.request.Verb.{Verb}
-use Rattle.mc_lane.specs.Receiving.{IsReplyAt, Stops}
 use Rattle.mc_lane.specs.Sending.{IsPrefix, IsProperPrefix, counts_of, EndsLast}
-use Rattle.mc_lane.specs.Streams.{StreamState, CanFail, Carries}
+use Rattle.mc_lane.specs.{Receiving.IsReplyAt, Receiving.Stops, Streams.StreamState, Streams.CanFail, Streams.Carries}
 
 -- What the lane sent and what it received; how many of the received bytes were the replies that it answered, and how many it
 -- may receive; the fault that closed it; and what its stream tells, until that is dropped.

@@ -1,13 +1,9 @@
 -- Laws of calls on lanes.
 use Rattle.std.specs.Prelude.{◌≡◌, Result, Ok, Err, List, ℕ, ◌++◌, drop}
-use Rattle.mc_protocol.specs.Lines.{Word}
-use Rattle.mc_protocol.specs.declared.fault.Fault.{Fault}
+use Rattle.mc_protocol.specs.{Lines.Word, declared.fault.Fault.Fault, declared.reply.Reply.Reply, declared.request.Verb.Verb}
 use Rattle.mc_protocol.specs.declared.fault.Fault.TheVariants as fault
-use Rattle.mc_protocol.specs.declared.reply.Reply.{Reply}
-use Rattle.mc_protocol.specs.declared.request.Verb.{Verb}
 use Rattle.mc_reader.specs.Replies.{Spells}
-use Rattle.mc_lane.specs.Lanes.{LaneRecord, Exchanges}
-use Rattle.mc_lane.specs.Streams.{StreamState}
+use Rattle.mc_lane.specs.{Lanes.LaneRecord, Lanes.Exchanges, Streams.StreamState}
 
 -- this reply is answered, unless the request was not written or there was no memory
 abbrev pub IsAnswered : Reply → Result Reply Fault → Type 0

@@ -2,8 +2,7 @@
 use Rattle.std.specs.Prelude.{◌≡◌, ℕ, ◌+◌, ◌-◌, ◌==◌, Bool, true, false, ◌&&◌, ◌||◌, nat_lt, min, Option, Some}
 use Rattle.std.specs.Prelude.{None, unwrap_or, Result, Ok, Err, List, [], ◌∷◌, ◌++◌, length, take, drop, find, if◌then◌else◌}
 use Rattle.std.specs.List.{concat}
-use Rattle.mc_lane.specs.Streams.{StreamState, no_counts, finds_end, ends_of_read}
-use Rattle.mc_lane.specs.declared.stream.Counts.{Counts}
+use Rattle.mc_lane.specs.{Streams.StreamState, Streams.no_counts, Streams.finds_end, Streams.ends_of_read, declared.stream.Counts.Counts}
 
 -- What it gives, where the pieces end in which it gives this, and how many bytes it gave. What it took, how many bytes it may
 -- take, and how many in one call. How many calls come before the one that is to fail, what was counted, and whether the last

@@ -1,17 +1,12 @@
 -- What a lane receives of a reply.
 use Rattle.std.specs.Prelude.{◌≡◌, ℕ, ◌<◌, ◌≤◌, true, Result, Ok, Err, List, [], ◌++◌, length, drop, slice_range}
-use Rattle.mc_protocol.specs.Legal.{is_fit_for}
-use Rattle.mc_protocol.specs.Lines.{Word}
-use Rattle.mc_protocol.specs.declared.fault.Fault.{Fault}
-use Rattle.mc_protocol.specs.declared.fault.Fault.TheVariants as fault
-use Rattle.mc_protocol.specs.declared.reply.Reply.{Reply}
 use Rattle.mc_protocol.specs.declared.request.Verb.{Verb}
+use Rattle.mc_protocol.specs.{Legal.is_fit_for, Lines.Word, declared.fault.Fault.Fault, declared.reply.Reply.Reply}
+use Rattle.mc_protocol.specs.declared.fault.Fault.TheVariants as fault
 use Rattle.mc_reader.specs.Replies.{Spells, IsUnfinished, HasFailed}
-use Rattle.mc_reader.specs.declared.fault.ErrorKind.{ErrorKind}
-use Rattle.mc_reader.specs.declared.fault.ReadFault.{ReadFault}
+use Rattle.mc_reader.specs.{declared.fault.ErrorKind.ErrorKind, declared.fault.ReadFault.ReadFault}
 use Rattle.mc_reader.specs.declared.fault.ReadFault.TheVariants as read_fault
-use Rattle.mc_lane.specs.Sending.{counts_of, EndsLast}
-use Rattle.mc_lane.specs.Streams.{StreamState, Carries}
+use Rattle.mc_lane.specs.{Sending.counts_of, Sending.EndsLast, Streams.StreamState, Streams.Carries}
 
 -- ---- one read
 

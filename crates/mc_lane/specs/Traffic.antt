@@ -1,9 +1,7 @@
 -- What went over a lane, as its record shows it.
 use Rattle.std.specs.Prelude.{Option}
 use Rattle.mc_protocol.specs.declared.fault.Fault.{Fault}
-use Rattle.mc_lane.specs.Lanes.{LaneRecord}
-use Rattle.mc_lane.specs.Streams.{StreamState}
-use Rattle.mc_lane.specs.declared.traffic.Traffic.{Traffic}
+use Rattle.mc_lane.specs.{Lanes.LaneRecord, Streams.StreamState, declared.traffic.Traffic.Traffic}
 
 -- a lane with this traffic
 abbrev pub lane_with : Traffic → Option Fault → Option StreamState → LaneRecord

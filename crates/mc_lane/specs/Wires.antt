@@ -1,6 +1,5 @@
 -- What contracts see of a wire.
-use Rattle.mc_lane.specs.Streams.{StreamState, silent}
-use Rattle.mc_lane.specs.declared.wire.Wire.{Wire}
+use Rattle.mc_lane.specs.{Streams.StreamState, Streams.silent, declared.wire.Wire.Wire}
 
 -- what it reads and writes over
 abbrev pub wire_inner : {T : Type 0} → Wire T → T

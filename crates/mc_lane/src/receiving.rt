@@ -1,9 +1,8 @@
 //! How a reply is received.
 
 ghost use Rattle.std.specs.Prelude.{◌≡◌, ◌≤◌, vec_len};
-ghost use Rattle.mc_lane.specs.Receiving.{Adds, Receives};
+ghost use Rattle.mc_lane.specs.{Receiving.Adds, Receiving.Receives, Streams.CanFail};
 ghost use Rattle.mc_lane.specs.Receiving as spec;
-ghost use Rattle.mc_lane.specs.Streams.{CanFail};
 
 use crate::Stream;
 use mc_protocol::{Fault, Reply};

@@ -1,8 +1,7 @@
 //! How a request is sent.
 
 ghost use Rattle.std.specs.Prelude.{◌≡◌};
-ghost use Rattle.mc_lane.specs.Streams.{CanFail};
-ghost use Rattle.mc_lane.specs.Sending.{Sends};
+ghost use Rattle.mc_lane.specs.{Streams.CanFail, Sending.Sends};
 
 use crate::Stream;
 use mc_protocol::Fault;

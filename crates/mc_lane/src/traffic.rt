@@ -2,8 +2,7 @@
 
 ghost use Rattle.std.specs.Prelude.{◌≡◌, ◌≤◌, Some, None, vec_len};
 ghost use Rattle.std.specs.Result.{result_err};
-ghost use Rattle.mc_lane.specs.Lanes.{Exchanges};
-ghost use Rattle.mc_lane.specs.Streams.{CanFail};
+ghost use Rattle.mc_lane.specs.{Lanes.Exchanges, Streams.CanFail};
 
 use crate::Stream;
 use crate::receiving::receive;

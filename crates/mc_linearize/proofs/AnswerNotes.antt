@@ -3,9 +3,8 @@ use Rattle.std.proofs.Common.{◌≡◌, ◌+◌, inl, inr, ℕ, suc, Bool, true
 use Rattle.std.proofs.Common.{Some, List, [], ◌∷◌, refl, ap, subst, sym, ◌∙◌, arith}
 use Rattle.std.specs.List.{slice_get}
 use Rattle.mc_model.specs.declared.note.Note.TheVariants as note
-use Rattle.mc_timeline.specs.Members.{IsIn}
-use Rattle.mc_timeline.specs.Operations.{Answer, Operation}
 use Rattle.mc_timeline.specs.Timelines.{ClientNote, placed, answer_to, operations_in, operations_of}
+use Rattle.mc_timeline.specs.{Members.IsIn, Operations.Answer, Operations.Operation}
 
 -- ---- answers
 

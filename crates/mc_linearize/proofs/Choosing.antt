@@ -4,18 +4,11 @@ use Rattle.std.proofs.Common.{◌≡◌, ◌+◌, ◌&&◌, ◌∙◌, ℕ, List
 use Rattle.mc_protocol.specs.declared.{request.Request.Request, request.Verb.Verb}
 use Rattle.mc_protocol.specs.declared.request.Verb.TheVariants as verb
 use Rattle.mc_protocol.specs.declared.reply.Reply.TheVariants as reply
-use Rattle.mc_model.specs.declared.act.Choice.{Choice}
-use Rattle.mc_model.specs.declared.cache.Item.{Item}
-use Rattle.mc_model.specs.Act.{Effect, answers, effect_by}
-use Rattle.mc_model.specs.ActLaws.{counts}
-use Rattle.mc_model.specs.History.{is_cas}
+use Rattle.mc_model.specs.{declared.act.Choice.Choice, declared.cache.Item.Item, Act.Effect, Act.answers, Act.effect_by, ActLaws.counts, History.is_cas}
 use Rattle.mc_claims.specs.Explains.{IsReceived}
-use Rattle.mc_timeline.specs.Explanations.{received}
-use Rattle.mc_timeline.specs.Operations.{Operation}
+use Rattle.mc_timeline.specs.{Explanations.received, Operations.Operation}
 use Rattle.mc_linearize.specs.Held.{Held, is_unmarked, effect_of_operation, held_after, marked}
-use Rattle.mc_linearize.specs.Points.{Point, Moves}
-use Rattle.mc_linearize.specs.Searching.{ActsAlone}
-use Rattle.mc_linearize.specs.Standing.{left_by}
+use Rattle.mc_linearize.specs.{Points.Point, Points.Moves, Searching.ActsAlone, Standing.left_by}
 
 one_effect : (v : Verb) (request : Request) (choice other : Choice) (found : Option Item) → counts v ≡ false
     → effect_by v request choice 0 found ≡ effect_by v request other 0 found

@@ -16,9 +16,12 @@ pub mod Tracing
 pub mod Reaching
 pub mod Finishing
 pub mod ByKeys
+pub mod NumberHits
 pub mod Following
 pub mod Freeing
 pub mod Advancing
+pub mod NewVersions
+pub mod ToShow
 pub mod Numbered
 pub mod OnEachKey
 pub mod SortedMoves

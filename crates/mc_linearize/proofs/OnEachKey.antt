@@ -1,17 +1,13 @@
 -- Operations are explained where those on each key are, in one order that keeps to the times.
 use Rattle.std.proofs.Common.{◌≡◌, ℕ, Bool, true, false, cond, is_some, List, [], ◌∷◌, ◌++◌, map, filter, refl, ap, subst, sym, ◌∙◌}
+use Rattle.std.proofs.{lemmas.List.Elements.filter-append, lemmas.Slice.Eq.bytes_eq-Decides}
 use Rattle.std.specs.Str.{bytes_eq}
-use Rattle.std.proofs.lemmas.List.Elements.{filter-append}
-use Rattle.std.proofs.lemmas.Slice.Eq.{bytes_eq-Decides}
-use Rattle.mc_model.specs.Act.{effect_of}
-use Rattle.mc_model.specs.Contents.{Contents}
+use Rattle.mc_model.specs.{Act.effect_of, Contents.Contents}
 use Rattle.mc_model.proofs.Changes.{get_other}
 use Rattle.mc_history.specs.Distinct.{AreDistinct}
-use Rattle.mc_claims.specs.Explains.{start_contents}
-use Rattle.mc_claims.specs.Replay.{after, replay, versions}
+use Rattle.mc_claims.specs.{Explains.start_contents, Replay.after, Replay.replay, Replay.versions}
 use Rattle.mc_timeline.specs.Explanations.{Effected, Explains, GivesEach, order_of, step_of}
-use Rattle.mc_timeline.specs.Members.{IsIn}
-use Rattle.mc_timeline.specs.Operations.{Operation, on_key}
+use Rattle.mc_timeline.specs.{Members.IsIn, Operations.Operation, Operations.on_key}
 use Rattle.mc_timeline.proofs.Acting.{AgreeAt, Keys, Version, effected_at, kept_replies, kept_start, kept_versions, versions_at}
 use Rattle.mc_timeline.proofs.Members.{absent, is_absent, among_kept, kept_among, mapped_kept}
 use Rattle.mc_timeline.proofs.Times.{KeepsTime, in_time_linear}

@@ -1,22 +1,17 @@
 -- The number of a cas was shown before it began.
 use Rattle.std.proofs.Common.{◌≡◌, ◌⊎◌, ◌&&◌, ◌||◌, inl, inr, ℕ, Bool, true, false, cond, not, eqb, is_some}
 use Rattle.std.proofs.Common.{Option, Some, None, List, [], ◌∷◌, ◌++◌, map, length, refl, ap, subst, sym, ◌∙◌}
+use Rattle.std.proofs.{lemmas.Bool.and_parts, lemmas.Option.slice_get_within}
 use Rattle.std.specs.Prelude.{if◌then◌else◌}
-use Rattle.std.specs.List.{list_any}
-use Rattle.std.specs.Str.{bytes_eq}
-use Rattle.std.proofs.lemmas.Bool.{and_parts}
-use Rattle.std.proofs.lemmas.Option.{slice_get_within}
+use Rattle.std.specs.{List.list_any, Str.bytes_eq}
 use Rattle.mc_protocol.specs.declared.{request.Request.Request}
 use Rattle.mc_model.specs.declared.note.Note.TheVariants as note
 use Rattle.mc_model.specs.declared.rules.HistoryKind.TheVariants as kind
 use Rattle.mc_model.specs.History.{is_cas, is_gets, shows_number, has_words, shows as shown_on}
-use Rattle.mc_timeline.specs.Members.{IsIn}
 use Rattle.mc_timeline.specs.Operations.{Answer, Operation, CameBefore, on_key}
-use Rattle.mc_timeline.specs.Timelines.{ClientNote, operations_of}
-use Rattle.mc_timeline.specs.Explanations.{received}
+use Rattle.mc_timeline.specs.{Members.IsIn, Timelines.ClientNote, Timelines.operations_of, Explanations.received}
 use Rattle.mc_timeline.specs.Rules as rule
-use Rattle.mc_timeline.proofs.Members.{among_parts}
-use Rattle.mc_timeline.proofs.MoreNotes.{unanswered, answered, begun, replied}
+use Rattle.mc_timeline.proofs.{Members.among_parts, MoreNotes.unanswered, MoreNotes.answered, MoreNotes.begun, MoreNotes.replied}
 use Rattle.mc_linearize.specs.Held.{shows}
 use Rattle.mc_linearize.proofs.AnswerNotes.{answer_note}
 

@@ -1,8 +1,7 @@
 -- What it means that an explanation explains a timeline.
 use Rattle.std.specs.Prelude.{◌≡◌, ℕ, List, map}
 use Rattle.mc_linearize.specs.declared.explanation.TimelineMove.{TimelineMove}
-use Rattle.mc_timeline.specs.Timelines.{ClientNote, operations_of}
-use Rattle.mc_timeline.specs.Explanations.{Effected, Explains}
+use Rattle.mc_timeline.specs.{Timelines.ClientNote, Timelines.operations_of, Explanations.Effected, Explanations.Explains}
 
 -- the keys that held something, each with its number, and the order in which the clients' requests took effect
 pub record TimelineClaim : Type 0 where

@@ -1,12 +1,8 @@
 -- A search of one key need not try numbers.
 use Rattle.std.specs.Prelude.{◌≡◌, ℕ, None, Some, List}
-use Rattle.mc_timeline.specs.Explanations.{IsExplained}
-use Rattle.mc_timeline.specs.Members.{IsIn}
-use Rattle.mc_timeline.specs.Operations.{Operation}
-use Rattle.mc_timeline.specs.Rules.{IsTimeline}
 use Rattle.mc_timeline.specs.Timelines.{ClientNote, operations_of}
-use Rattle.mc_linearize.specs.Points.{IsHopeless, held_at_start, start_point}
-use Rattle.mc_linearize.specs.Standing.{AreQueues}
+use Rattle.mc_timeline.specs.{Explanations.IsExplained, Members.IsIn, Operations.Operation, Rules.IsTimeline}
+use Rattle.mc_linearize.specs.{Points.IsHopeless, Points.held_at_start, Points.start_point, Standing.AreQueues}
 
 -- where no moves lead to an end, whether something was at the key at the start or not, nothing explains a timeline on one key
 abbrev pub HopelessIsUnexplained : Type 0

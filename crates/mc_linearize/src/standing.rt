@@ -1,8 +1,7 @@
 //! How far an order of a timeline's requests has come.
 ghost use Rattle.std.specs.Prelude.{◌≡◌, ◌+◌, ◌^◌, ◌<◌, ◌≤◌, ◌↔◌, [], length, slice_get, get_or, MatchOption, IsTrue, IfOk, IfSome};
-ghost use Rattle.mc_timeline.specs.Rules.{IsTimeline};
 ghost use Rattle.std.specs.Option.{option_copied};
-ghost use Rattle.mc_timeline.specs.Operations.{Operation as TheOperation};
+ghost use Rattle.mc_timeline.specs.{Rules.IsTimeline, Operations.Operation as TheOperation};
 ghost use Rattle.mc_timeline.specs.Queues as left;
 ghost use Rattle.mc_linearize.specs.Standing as standing;
 

@@ -1,35 +1,21 @@
 -- How a machine goes on: from one instruction to the next without a reply, and with one.
 use Rattle.std.proofs.Common.{◌≡◌, ◌≢◌, ◌⊎◌, inl, inr, ℕ, ◌+◌, ◌<◌, ◌≤◌, ◌==◌, Bool, true, false, Some, None, List, [], ◌∷◌, ◌++◌, length}
 use Rattle.std.proofs.Common.{slice_get, slice_set, slice_index, slice_index_or, refl, ap, sym, subst, ◌∙◌, arith, if◌then◌else◌}
-use Rattle.std.proofs.Math.ListN.{length-set}
-use Rattle.std.proofs.lemmas.Bool.{eqb-true}
-use Rattle.std.proofs.lemmas.Bool.Decides.{eqb_tells}
 use Rattle.std.proofs.lemmas.List.{append-nil, get_or-set_same, get_or-set_other}
-use Rattle.std.proofs.lemmas.Option.{slice_get-get_or}
-use Rattle.mc_protocol.specs.Legal.{class_of, is_fit_for}
-use Rattle.mc_protocol.specs.declared.reply.Reply.{Reply}
+use Rattle.std.proofs.{Math.ListN.length-set, lemmas.Bool.eqb-true, lemmas.Bool.Decides.eqb_tells, lemmas.Option.slice_get-get_or}
+use Rattle.mc_protocol.specs.{Legal.class_of, Legal.is_fit_for, declared.reply.Reply.Reply}
 use Rattle.mc_script.specs.declared.limits.TheConstants.{VARIABLES_LIMIT}
 use Rattle.mc_code.specs.declared.limits.TheConstants.{INSTRUCTIONS_LIMIT}
-use Rattle.mc_code.specs.declared.instr.Call.{Call}
-use Rattle.mc_code.specs.declared.instr.Instr.{Instr}
-use Rattle.mc_code.specs.declared.instr.Instr.TheVariants as instr
-use Rattle.mc_code.specs.Calls.{exchange_of, no_template, template_of}
-use Rattle.mc_code.specs.Code.{Code, IsCode, instructions_in}
-use Rattle.mc_code.specs.Paths.{Slides, entry_of}
-use Rattle.mc_code.specs.Runs.{Exchange, met_at}
-use Rattle.mc_code.specs.Standing.{StandsAt, is_right, met_in}
 use Rattle.mc_code.specs.States.{Tagged, nothing, State, initial_state, after_reply, after_bind, Outcome, is_number, nothing_to_bind, shown_of}
-use Rattle.mc_code.proofs.LookUps.{some_is}
-use Rattle.mc_code.proofs.RunLemmas.{run_sends, run_slides}
-use Rattle.mc_code.proofs.StepFacts.{fit_is_legal}
-use Rattle.mc_code.proofs.Stopping.{StopsAt, one_stop}
-use Rattle.mc_verify.specs.Faults.{IsSound}
-use Rattle.mc_verify.proofs.Right.{sound_right, sound_structured}
-use Rattle.mc_flow.proofs.RunKinds.{begins_length, run_keeps_length}
-use Rattle.mc_flow.proofs.Structured.{structured_slides, structured_stands, structured_template, structured_variable}
-use Rattle.mc_machine.specs.declared.machine.Machine.{Machine}
+use Rattle.mc_code.specs.{declared.instr.Call.Call, declared.instr.Instr.Instr, Calls.exchange_of, Calls.no_template, Calls.template_of, Code.Code, Code.IsCode}
+use Rattle.mc_code.specs.{Code.instructions_in, Paths.Slides, Paths.entry_of, Runs.Exchange, Runs.met_at, Standing.StandsAt, Standing.is_right, Standing.met_in}
+use Rattle.mc_code.specs.declared.instr.Instr.TheVariants as instr
+use Rattle.mc_code.proofs.{LookUps.some_is, RunLemmas.run_sends, RunLemmas.run_slides, StepFacts.fit_is_legal, Stopping.StopsAt, Stopping.one_stop}
+use Rattle.mc_sound.specs.Faults.{IsSound}
+use Rattle.mc_sound.proofs.{Right.sound_right, Right.sound_structured, RunLengths.begins_length, RunLengths.run_keeps_length, Structured.structured_slides}
+use Rattle.mc_sound.proofs.{Structured.structured_stands, Structured.structured_template, Structured.structured_variable}
 use Rattle.mc_machine.specs.Machine.{AreNumbersOf, IsAnswered, IsAt, IsOnWay, MayBeAnswered, Stands, waits_at}
-use Rattle.mc_machine.specs.Moves.{Follows, Goes, IsTaken}
+use Rattle.mc_machine.specs.{declared.machine.Machine.Machine, Moves.Follows, Moves.Goes, Moves.IsTaken}
 
 -- ---- a machine on its way through sound code
 

@@ -1,35 +1,23 @@
 -- Where a machine starts, the call that it makes, and its end.
 use Rattle.std.proofs.Common.{◌≡◌, ◌≢◌, ◌↔◌, ◌⊎◌, inl, inr, ℕ, zero, suc, ◌<◌, Bool, true, false, Option, Some, None, IfSome, List, [], length}
 use Rattle.std.proofs.Common.{replicate, slice_get, slice_index, slice_index_or, refl, ap, sym, subst, ◌∙◌, arith, if◌then◌else◌}
-use Rattle.std.proofs.lemmas.List.{get_or-replicate, length-replicate}
-use Rattle.std.proofs.lemmas.Option.{get_or_from_slice_get, slice_get-get_or}
+use Rattle.std.proofs.{lemmas.List.get_or-replicate, lemmas.List.length-replicate, lemmas.Option.get_or_from_slice_get, lemmas.Option.slice_get-get_or}
 use Rattle.mc_protocol.specs.declared.actor.Actor.{Actor}
 use Rattle.mc_protocol.specs.declared.actor.Actor.TheVariants as actor
-use Rattle.mc_script.specs.declared.step.Argument.{Argument}
+use Rattle.mc_script.specs.{declared.step.Argument.Argument, declared.step.Template.Template, declared.limits.TheConstants.VARIABLES_LIMIT}
 use Rattle.mc_script.specs.declared.step.Argument.TheVariants as argument
-use Rattle.mc_script.specs.declared.step.Template.{Template}
-use Rattle.mc_code.specs.declared.instr.Call.{Call}
-use Rattle.mc_code.specs.declared.instr.Instr.{Instr}
-use Rattle.mc_code.specs.declared.instr.Instr.TheVariants as instr
-use Rattle.mc_code.specs.declared.kind.Kind.TheVariants as kind
-use Rattle.mc_code.specs.Calls.{IsCalling, no_template}
-use Rattle.mc_code.specs.Code.{Code, IsCode, instructions_in}
-use Rattle.mc_code.specs.Runs.{Exchange, met_at, met_by_send, rests}
 use Rattle.mc_code.specs.Standing.{ComesTo, BeginsAfter, BeginsWith, is_right, met_in, no_variables}
 use Rattle.mc_code.specs.States.{Tagged, nothing, State, initial_state, call, wrong_kind, nothing_to_bind, ended}
 use Rattle.mc_code.specs.States.{call_with, with_argument, send_outcome, wanted_by, is_same, is_number}
-use Rattle.mc_code.proofs.LookUps.{some_is}
-use Rattle.mc_code.proofs.StandingLemmas.{calls_open}
-use Rattle.mc_code.proofs.Stopping.{one_stop}
-use Rattle.mc_verify.specs.Faults.{IsSound}
-use Rattle.mc_script.specs.declared.limits.TheConstants.{VARIABLES_LIMIT}
-use Rattle.mc_flow.proofs.TemplateVariables.{variable_declared}
-use Rattle.mc_verify.proofs.Right.{sound_structured}
-use Rattle.mc_flow.proofs.Structured.{structured_template}
-use Rattle.mc_machine.specs.declared.machine.Machine.{Machine}
-use Rattle.mc_machine.specs.Laws.{EndsStartBranches, OutstandingIsNamed}
+use Rattle.mc_code.specs.{declared.instr.Call.Call, declared.instr.Instr.Instr, Calls.IsCalling, Calls.no_template, Code.Code, Code.IsCode}
+use Rattle.mc_code.specs.{Code.instructions_in, Runs.Exchange, Runs.met_at, Runs.met_by_send, Runs.rests}
+use Rattle.mc_code.specs.declared.instr.Instr.TheVariants as instr
+use Rattle.mc_code.specs.declared.kind.Kind.TheVariants as kind
+use Rattle.mc_code.proofs.{LookUps.some_is, StandingLemmas.calls_open, Stopping.one_stop}
+use Rattle.mc_sound.specs.Faults.{IsSound}
+use Rattle.mc_sound.proofs.{TemplateVariables.variable_declared, Structured.structured_template, Right.sound_structured}
 use Rattle.mc_machine.specs.Machine.{AreNumbersOf, IsAt, IsOnWay, StartsFrom, waits_at}
-use Rattle.mc_machine.specs.Moves.{Goes, plain_number}
+use Rattle.mc_machine.specs.{declared.machine.Machine.Machine, Laws.EndsStartBranches, Laws.OutstandingIsNamed, Moves.Goes, Moves.plain_number}
 use Rattle.mc_machine.proofs.Moving.{stops_waiting, way_length, way_right}
 
 -- ---- the start

@@ -2,12 +2,8 @@
 use Rattle.std.specs.Prelude.{◌≡◌, ◌≢◌, Some, List, slice_get}
 use Rattle.mc_protocol.specs.declared.actor.Actor.{Actor}
 use Rattle.mc_protocol.specs.declared.actor.Actor.TheVariants as actor
-use Rattle.mc_code.specs.declared.instr.Call.{Call}
-use Rattle.mc_code.specs.Calls.{template_of}
-use Rattle.mc_code.specs.Code.{Code}
-use Rattle.mc_code.specs.Runs.{Exchange}
 use Rattle.mc_code.specs.Standing.{BeginsAfter, ComesTo}
-use Rattle.mc_code.specs.States.{Tagged, State, ended}
+use Rattle.mc_code.specs.{declared.instr.Call.Call, Calls.template_of, Code.Code, Runs.Exchange, States.Tagged, States.State, States.ended}
 use Rattle.mc_machine.specs.declared.machine.Machine.{Machine}
 use Rattle.mc_machine.specs.Machine.{IsAt, StartsFrom, actor_of, numbers_of, outstanding_of}
 

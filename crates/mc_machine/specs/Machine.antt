@@ -1,18 +1,12 @@
 -- Where a machine stands: how far its section has come in the code, and whether its plain numbers are those of the section.
 use Rattle.std.specs.Prelude.{◌≡◌, ℕ, ◌<◌, Bool, true, false, Option, Some, List, [], ◌∷◌}
 use Rattle.std.specs.Prelude.{◌++◌, length, slice_get, slice_index, slice_index_or}
-use Rattle.mc_protocol.specs.declared.actor.Actor.{Actor}
+use Rattle.mc_protocol.specs.{declared.actor.Actor.Actor, declared.reply.Reply.Reply, Legal.is_fit_for}
 use Rattle.mc_protocol.specs.declared.actor.Actor.TheVariants as actor
-use Rattle.mc_protocol.specs.declared.reply.Reply.{Reply}
-use Rattle.mc_protocol.specs.Legal.{is_fit_for}
-use Rattle.mc_code.specs.declared.instr.Call.{Call}
-use Rattle.mc_code.specs.declared.instr.Instr.{Instr}
-use Rattle.mc_code.specs.declared.instr.Instr.TheVariants as instr
-use Rattle.mc_code.specs.Calls.{IsCalling, template_of, exchange_of}
-use Rattle.mc_code.specs.Code.{Code, instructions_in}
-use Rattle.mc_code.specs.Runs.{Exchange}
 use Rattle.mc_code.specs.Standing.{StandsAt, BeginsWith, no_variables}
-use Rattle.mc_code.specs.States.{Tagged, nothing, State}
+use Rattle.mc_code.specs.{declared.instr.Call.Call, declared.instr.Instr.Instr, Calls.IsCalling, Calls.template_of, Calls.exchange_of}
+use Rattle.mc_code.specs.{Code.Code, Code.instructions_in, Runs.Exchange, States.Tagged, States.nothing, States.State}
+use Rattle.mc_code.specs.declared.instr.Instr.TheVariants as instr
 use Rattle.mc_machine.specs.declared.machine.Machine.{Machine}
 
 -- ---- what a machine shows

@@ -3,13 +3,8 @@ use Rattle.std.specs.Prelude.{◌≡◌, ℕ, Some, List, [], ◌∷◌, ◌++�
 use Rattle.mc_protocol.specs.declared.reply.Reply.{Reply}
 use Rattle.mc_script.specs.declared.step.Argument.{Argument}
 use Rattle.mc_script.specs.declared.step.Argument.TheVariants as argument
-use Rattle.mc_code.specs.declared.instr.Call.{Call}
-use Rattle.mc_code.specs.Calls.{exchange_of}
-use Rattle.mc_code.specs.Code.{Code}
-use Rattle.mc_code.specs.Runs.{Exchange}
-use Rattle.mc_code.specs.States.{Tagged, State}
-use Rattle.mc_machine.specs.Machine.{IsAt, IsOnWay}
-use Rattle.mc_machine.specs.declared.machine.Machine.{Machine}
+use Rattle.mc_code.specs.{declared.instr.Call.Call, Calls.exchange_of, Code.Code, Runs.Exchange, States.Tagged, States.State}
+use Rattle.mc_machine.specs.{Machine.IsAt, Machine.IsOnWay, declared.machine.Machine.Machine}
 
 -- the number of a request with this argument: its own, or that of its variable
 abbrev pub plain_number : Argument → List ℕ → ℕ

@@ -3,21 +3,17 @@ ghost use Rattle.std.specs.Prelude.{◌≡◌, ◌↔◌, ℕ, ◌<◌, true, fa
 ghost use Rattle.mc_protocol.specs.Legal.{class_of};
 ghost use Rattle.mc_script.specs.declared.step.Template.{Template};
 ghost use Rattle.mc_script.specs.declared.step.Argument.TheVariants as argument_of;
-ghost use Rattle.mc_code.specs.Calls.{IsCalling};
-ghost use Rattle.mc_code.specs.Code as codes;
-ghost use Rattle.mc_code.specs.Code.{Code};
-ghost use Rattle.mc_code.specs.Paths.{entry_of};
-ghost use Rattle.mc_code.specs.Runs.{Exchange};
-ghost use Rattle.mc_code.specs.Standing.{ComesTo};
 ghost use Rattle.mc_code.specs.States.{Tagged, State, ended, shown_of};
+ghost use Rattle.mc_code.specs.{Calls.IsCalling, Code.Code, Paths.entry_of, Runs.Exchange, Standing.ComesTo};
+ghost use Rattle.mc_code.specs.Code as codes;
 ghost use Rattle.mc_machine.specs.Machine as spec;
 ghost use Rattle.mc_machine.specs.Moves as moves;
-ghost use Rattle.mc_verify.specs.Faults.{IsSound};
+ghost use Rattle.mc_sound.specs.Faults.{IsSound};
 
 use mc_code::{CLASS_COUNT, Call, Code, INSTRUCTIONS_LIMIT, Instr, entry};
 use mc_protocol::{Actor, Reply};
 use mc_script::{Argument, VARIABLES_LIMIT};
-use mc_verify::Checked;
+use mc_sound::Checked;
 
 /// How far one section has come. It stands at a send, whose call may be outstanding, or at the section's end.
 ///

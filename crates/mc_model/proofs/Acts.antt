@@ -1,15 +1,15 @@
 -- The laws of what a server does with a request, by what its effect is.
 use Rattle.std.proofs.Common.{◌≡◌, ℕ, ◌+◌, ◌≤◌, true, false, leb, Option, Some, None, List, length, max, refl, ap, ◌∙◌, arith}
-use Rattle.std.specs.FinMap as finite_map
 use Rattle.std.proofs.lemmas.Bool.{leb-true, le-leb, both_ways}
+use Rattle.std.specs.FinMap as finite_map
 use Rattle.mc_protocol.specs.Legal.{class_of, is_fit}
 use Rattle.mc_model.specs.Types.{Request, REPLY_BODY_LIMIT, Item, Is, Choice}
-use Rattle.mc_protocol.specs.declared.request.Verb.TheVariants as verb
-use Rattle.mc_protocol.specs.declared.reply.Reply.TheVariants as reply
-use Rattle.mc_model.specs.{Contents.Contents, Numeral.numeral_of}
 use Rattle.mc_model.specs.Act.{Puts, Effect, effect_by, effect_of, item_after, act}
 use Rattle.mc_model.specs.ActLaws.{OtherKeysStay, RepliesFit, BodiesStayShort, JoinedBodiesAddUp, DeletedIsGone, ReportedVersionIsMade}
 use Rattle.mc_model.specs.ActLaws.{MadeVersionIsReported, AnsweredNumberIsThere, is_short, body_length, joins, reports_version}
+use Rattle.mc_protocol.specs.declared.request.Verb.TheVariants as verb
+use Rattle.mc_protocol.specs.declared.reply.Reply.TheVariants as reply
+use Rattle.mc_model.specs.{Contents.Contents, Numeral.numeral_of}
 use Rattle.mc_model.proofs.Changes.{get_changed, get_other}
 use Rattle.mc_model.proofs.Effects.{NewBody, own, joining, counting, Does, answering, removing, putting, does}
 

@@ -1,11 +1,9 @@
 -- A test of every request, of the sections with one more request.
 use Rattle.std.proofs.Common.{◌≡◌, Bool, true, ◌&&◌, [], ◌∷◌, arith}
-use Rattle.std.specs.List.{list_all}
 use Rattle.std.proofs.lemmas.List.Folds.{list_all-append}
-use Rattle.mc_model.specs.Types.{Actor, Sent}
+use Rattle.std.specs.List.{list_all}
+use Rattle.mc_model.specs.{Types.Actor, Types.Sent, Sections.Sections, Sections.with_sent, History.every}
 use Rattle.mc_protocol.specs.declared.actor.Actor.TheVariants as actor
-use Rattle.mc_model.specs.Sections.{Sections, with_sent}
-use Rattle.mc_model.specs.History.{every}
 
 -- one more part of the first, of the second or of the last
 pub and_first : (p a b t : Bool) → (p && t && a && b) ≡ (p && a && b && t)

@@ -2,20 +2,16 @@
 use Rattle.std.proofs.Common.{◌≡◌, ◌⊎◌, inl, inr, ℕ, ◌-◌, ◌<◌, Bool, true, false, not, ◌&&◌, ◌||◌, if◌then◌else◌}
 use Rattle.std.proofs.Common.{Option, Some, None, is_some, Result, Ok, Err, OnOk, IfOk, OnErr, List, [], ◌∷◌, ◌++◌}
 use Rattle.std.proofs.Common.{length, slice_get, slice_index_or, arith, refl, sym, ap, ◌∙◌, length-append}
+use Rattle.std.proofs.{Math.ListN.set, Math.Seq.set-append_seam, lemmas.Bool.false_from_ne_true, lemmas.List.Folds.list_all-append, lemmas.List.get_or_at}
+use Rattle.std.proofs.{lemmas.List.length_push, lemmas.List.map-append, lemmas.Option.slice_get-get_or, lemmas.Option.same_Some}
 use Rattle.std.specs.{Option.option_or, Ordering.nat_cmp, Cmp.Lexicographic.slice_cmp}
 use Rattle.std.specs.FinSet as set
-use Rattle.std.proofs.Math.ListN.{set}
-use Rattle.std.proofs.Math.Seq.{set-append_seam}
-use Rattle.std.proofs.lemmas.{Bool.false_from_ne_true, List.Folds.list_all-append}
-use Rattle.std.proofs.lemmas.List.{get_or_at, length_push, map-append}
-use Rattle.std.proofs.lemmas.Option.{slice_get-get_or, same_Some}
 use Rattle.mc_protocol.specs.Legal.{is_fit}
-use Rattle.mc_model.specs.Types.{Actor, Request, Reply, Sent, HistoryKind}
-use Rattle.mc_protocol.specs.declared.actor.Actor.TheVariants as actor
-use Rattle.mc_model.specs.declared.rules.HistoryKind.TheVariants as kind
-use Rattle.mc_model.specs.Sections.{Sections, section_of, with_sent}
 use Rattle.mc_model.specs.History.{are_answered, is_open_at_the_end, has_words, has_no_branch, keys_of, key_count, is_history, fault_at, comes_late}
 use Rattle.mc_model.specs.Next.{is_full, may_come, clears, number_is_seen, with_section, last_of, reply_fault, with_last_reply, after_reply}
+use Rattle.mc_model.specs.{Types.Actor, Types.Request, Types.Reply, Types.Sent, Types.HistoryKind, Sections.Sections, Sections.section_of, Sections.with_sent}
+use Rattle.mc_protocol.specs.declared.actor.Actor.TheVariants as actor
+use Rattle.mc_model.specs.declared.rules.HistoryKind.TheVariants as kind
 use Rattle.mc_model.proofs.Faults.{first_failed, fault_by_tests, no_fault, no_fault_of, rules_of}
 use Rattle.mc_model.proofs.Prefixes.{history_before, added_last, late_with, same_section}
 

@@ -3,11 +3,10 @@ use Rattle.std.proofs.Common.{◌≡◌, ℕ, ◌+◌, ◌*◌, ◌==◌, nat_le
 use Rattle.std.proofs.Common.{None, Result, Ok, Err, List, [], ◌∷◌, length, refl, sym, ap, ◌∙◌, inl, inr, arith}
 use Rattle.std.proofs.lemmas.Bool.{eqb-true, leb-true, le-leb}
 use Rattle.mc_model.specs.Types.{REPLY_BODY_LIMIT, Word, WordsKind}
-use Rattle.mc_model.specs.declared.words_fault.WordsKind.TheVariants as kind
 use Rattle.mc_model.specs.Words.{SpellsByte, SpellsBytes, SpellsBody, is_plain, hex_value}
 use Rattle.mc_model.specs.Reading.{◌>>=◌, first_byte_in, bytes_in, body_in, in_front, hex_before, if_plain, if_hex, within_limit}
-use Rattle.mc_model.proofs.Readings.{then-ok, steps-ok, ok-same}
-use Rattle.mc_model.proofs.Escaped.{read_on, bytes_in-first}
+use Rattle.mc_model.specs.declared.words_fault.WordsKind.TheVariants as kind
+use Rattle.mc_model.proofs.{Readings.then-ok, Readings.steps-ok, Readings.ok-same, Escaped.read_on, Escaped.bytes_in-first}
 
 -- ---- one byte: what is read is spelled
 

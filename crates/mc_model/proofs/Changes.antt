@@ -1,13 +1,10 @@
 -- What a change at a key leaves.
 use Rattle.std.proofs.Common.{◌≡◌, ◌≢◌, ℕ, true, false, cond, Some, None, List, refl, ap, ◌∙◌}
-use Rattle.std.specs.Ordering.{nat_cmp, eq_by_cmp}
-use Rattle.std.specs.Cmp.{eq_by_cmp_equiv}
-use Rattle.std.specs.Cmp.Lexicographic.{slice_cmp, nat_list_cmp_total, texts_ties}
-use Rattle.std.specs.FinMap as finite_map
-use Rattle.std.specs.FinMap.{get-insert, get-remove}
 use Rattle.std.proofs.lemmas.Slice.Eq.{bytes_eq-Decides}
-use Rattle.mc_model.specs.Contents.{Contents}
-use Rattle.mc_model.specs.Act.{Change, Keeps, Puts, Removes, item_after, with_change}
+use Rattle.std.specs.Cmp.Lexicographic.{slice_cmp, nat_list_cmp_total, texts_ties}
+use Rattle.std.specs.{Ordering.nat_cmp, Ordering.eq_by_cmp, Cmp.eq_by_cmp_equiv, FinMap.get-insert, FinMap.get-remove}
+use Rattle.std.specs.FinMap as finite_map
+use Rattle.mc_model.specs.{Contents.Contents, Act.Change, Act.Keeps, Act.Puts, Act.Removes, Act.item_after, Act.with_change}
 
 -- two keys that differ don't tie
 apart : (q key : List ℕ) → q ≢ key → eq_by_cmp (slice_cmp nat_cmp) q key ≡ false

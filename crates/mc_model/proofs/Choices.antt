@@ -1,11 +1,10 @@
 -- What is left to the server.
 use Rattle.std.proofs.Common.{◌≡◌, ℕ, false, Option, Some, None, refl, ap, ◌∙◌}
 use Rattle.std.specs.FinMap as finite_map
-use Rattle.mc_model.specs.Types.{Request, Verb, Item, Numeral, NoNumber, Is, MayBe, Choice}
-use Rattle.mc_protocol.specs.declared.request.Verb.TheVariants as verb
-use Rattle.mc_model.specs.Numeral.{numeral_of, read_as}
-use Rattle.mc_model.specs.Act.{count, count_from, count_to, increment, decrement, effect_by, outcome_of}
 use Rattle.mc_model.specs.ActLaws.{OnlyCountsChoose, OnlyDoubtfulAreChosen, PaddingIsUnseen, counts, is_doubtful, may_be_refused}
+use Rattle.mc_model.specs.{Types.Request, Types.Verb, Types.Item, Types.Numeral, Types.NoNumber, Types.Is, Types.MayBe, Types.Choice, Numeral.numeral_of}
+use Rattle.mc_model.specs.{Numeral.read_as, Act.count, Act.count_from, Act.count_to, Act.increment, Act.decrement, Act.effect_by, Act.outcome_of}
+use Rattle.mc_protocol.specs.declared.request.Verb.TheVariants as verb
 
 -- a verb that doesn't count has one effect
 one_effect : (v : Verb) (request : Request) (choice other : Choice) (number : ℕ) (found : Option Item) → counts v ≡ false

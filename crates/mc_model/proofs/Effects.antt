@@ -1,16 +1,14 @@
 -- Every effect is an answer alone, a removal, or a version that the reply reports.
 use Rattle.std.proofs.Common.{◌≡◌, ℕ, ◌+◌, ◌-◌, ◌^◌, ◌<◌, ◌≤◌, Bool, true, false, ◌&&◌, cond, eqb, ltb, Option}
 use Rattle.std.proofs.Common.{Some, None, List, ◌++◌, length, replicate, max, refl, sym, ap, ◌∙◌, arith}
+use Rattle.std.proofs.{lemmas.List.append-nil, lemmas.List.length-append, lemmas.List.length-replicate, lemmas.Nat.mod_below, lemmas.Fmt.length-decimal-le}
 use Rattle.std.specs.Fmt.{decimal}
-use Rattle.std.proofs.lemmas.List.{append-nil, length-append, length-replicate}
-use Rattle.std.proofs.lemmas.{Nat.mod_below, Fmt.length-decimal-le}
 use Rattle.mc_protocol.specs.Legal.{class_of, is_fit}
-use Rattle.mc_model.specs.Types.{Request, Verb, Reply, Item, Is, Choice}
-use Rattle.mc_protocol.specs.declared.request.Verb.TheVariants as verb
-use Rattle.mc_protocol.specs.declared.reply.Reply.TheVariants as reply
-use Rattle.mc_model.specs.Numeral.{numeral_of, read_as}
 use Rattle.mc_model.specs.Act.{Removes, Effect, answers, puts, store, count, count_from, count_to, counted_body, increment, decrement, effect_by, version}
 use Rattle.mc_model.specs.ActLaws.{is_short, body_length, joins, reports_version}
+use Rattle.mc_model.specs.{Types.Request, Types.Verb, Types.Reply, Types.Item, Types.Is, Types.Choice, Numeral.numeral_of, Numeral.read_as}
+use Rattle.mc_protocol.specs.declared.request.Verb.TheVariants as verb
+use Rattle.mc_protocol.specs.declared.reply.Reply.TheVariants as reply
 use Rattle.mc_model.proofs.NumeralReadings.{decimal_says, small_numeral}
 
 -- what the body of a version that is made may be

@@ -1,12 +1,10 @@
 -- What a list of keys and items holds: where it is searched, filtered and added to.
 use Rattle.std.proofs.Common.{◌≡◌, ℕ, Bool, true, false, cond, not, Option, Some, None, List, [], ◌∷◌, ◌++◌, Bor, refl, sym, ap, ◌∙◌, arith}
-use Rattle.std.specs.Ordering.{nat_cmp, eq_by_cmp}
-use Rattle.std.specs.{Cmp.eq_by_cmp_equiv, Option.option_map, Str.bytes_eq, FinMap.Entries.find-where_key}
-use Rattle.std.specs.Cmp.Lexicographic.{slice_cmp, nat_list_cmp_total, texts_ties}
-use Rattle.std.specs.List.{find, filter}
-use Rattle.std.specs.FinMap as finite_map
 use Rattle.std.specs.FinMap.{FinMap, IsAntisymmetric, nat_cmp-IsAntisymmetric, slice_cmp-IsAntisymmetric}
-use Rattle.std.specs.FinMap.{same_map, from_entries_push, get-from_entries, get-insert, get-remove}
+use Rattle.std.specs.{Ordering.nat_cmp, Ordering.eq_by_cmp, Cmp.Lexicographic.slice_cmp, Cmp.Lexicographic.nat_list_cmp_total, Cmp.Lexicographic.texts_ties}
+use Rattle.std.specs.{List.find, List.filter, FinMap.same_map, FinMap.from_entries_push, FinMap.get-from_entries, FinMap.get-insert, FinMap.get-remove}
+use Rattle.std.specs.{Cmp.eq_by_cmp_equiv, Option.option_map, Str.bytes_eq, FinMap.Entries.find-where_key}
+use Rattle.std.specs.FinMap as finite_map
 use Rattle.std.specs.FinMap.Entries as entries
 
 -- keys that compare alike are equal

@@ -1,12 +1,11 @@
 -- The bytes that a text stands for, from its first byte on.
 use Rattle.std.proofs.Common.{◌≡◌, ℕ, ◌<◌, ◌==◌, Bool, cond, List, [], ◌∷◌, ◌++◌, length}
 use Rattle.std.proofs.Common.{Option, Some, None, Result, Ok, Err, refl, sym, ap, ◌∙◌, subst, arith}
-use Rattle.std.specs.{Result.IfOk, Option.IfSome}
 use Rattle.std.proofs.lemmas.List.{append_assoc}
-use Rattle.mc_model.specs.declared.words_fault.WordsKind.{WordsKind}
-use Rattle.mc_model.specs.declared.words_fault.WordsKind.TheVariants as kind
-use Rattle.mc_model.specs.Words.{is_plain, hex_value}
+use Rattle.std.specs.{Result.IfOk, Option.IfSome}
 use Rattle.mc_model.specs.Reading.{Fails, first_byte_in, bytes_in, in_front, hex_before, if_hex}
+use Rattle.mc_model.specs.{declared.words_fault.WordsKind.WordsKind, Words.is_plain, Words.hex_value}
+use Rattle.mc_model.specs.declared.words_fault.WordsKind.TheVariants as kind
 
 -- bytes before those that are read, if they are
 abbrev pub onto : List ℕ → Result (List ℕ) WordsKind → Result (List ℕ) WordsKind

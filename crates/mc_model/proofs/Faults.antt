@@ -1,17 +1,15 @@
 -- The fault of a request that comes next, by the tests of that request alone.
 use Rattle.std.proofs.Common.{◌≡◌, ◌+◌, ◌≤◌, Bool, true, false, cond, not, ◌&&◌, ◌||◌, if◌then◌else◌, Option, Some, None, refl, ap, ◌∙◌, arith}
+use Rattle.std.proofs.lemmas.Bool.{leb-true}
 use Rattle.std.specs.{Ordering.nat_cmp, Cmp.Lexicographic.slice_cmp}
 use Rattle.std.specs.FinSet as set
-use Rattle.std.proofs.lemmas.Bool.{leb-true}
-use Rattle.mc_model.specs.Types.{Actor, KEYS_LIMIT, Sent, HistoryKind}
-use Rattle.mc_model.specs.declared.rules.HistoryKind.TheVariants as kind
-use Rattle.mc_model.specs.Sections.{Sections, no_sections, with_sent}
 use Rattle.mc_model.specs.History.{has_words, all_have_words, has_few_requests, has_few_keys, is_within_limits, is_in_turn, is_cleared, numbers_are_seen}
 use Rattle.mc_model.specs.History.{is_answered_rightly, are_answered_rightly, is_history, fault_at, comes_late, key_count}
 use Rattle.mc_model.specs.Next.{is_full, may_come, clears, number_is_seen, keys_with}
+use Rattle.mc_model.specs.{Types.Actor, Types.KEYS_LIMIT, Types.Sent, Types.HistoryKind, Sections.Sections, Sections.no_sections, Sections.with_sent}
+use Rattle.mc_model.specs.declared.rules.HistoryKind.TheVariants as kind
 use Rattle.mc_model.proofs.{Added.every_added, Turns.turn_added, Keys.key_count_added, Seen.numbers_added}
-use Rattle.mc_model.proofs.Limits.{requests_added, keys_added}
-use Rattle.mc_model.proofs.Cleared.{cleared_added, keys_in_prefix}
+use Rattle.mc_model.proofs.{Limits.requests_added, Limits.keys_added, Cleared.cleared_added, Cleared.keys_in_prefix}
 
 -- the rules of a history, one by one
 pub record Rules (s : Sections) : Type 0 where

@@ -1,15 +1,13 @@
 -- The words that requests and replies share are read exactly where they spell a number, or flags and a body.
 use Rattle.std.proofs.Common.{◌≡◌, ℕ, Result, Ok, Err, List, [], ◌∷◌, refl, ap, subst}
-use Rattle.mc_protocol.specs.Lines.{Word}
 use Rattle.mc_protocol.specs.Decimals.{SpellsNumber, MAX_32, MAX_64, decimal_in}
-use Rattle.mc_protocol.specs.declared.decimal.DecimalFault.{DecimalFault}
+use Rattle.mc_protocol.specs.{Lines.Word, declared.decimal.DecimalFault.DecimalFault}
 use Rattle.mc_protocol.specs.declared.decimal.DecimalFault.TheVariants as decimal
 use Rattle.mc_protocol.proofs.Decimals.{decimal-spelled, decimal-read}
 use Rattle.mc_model.specs.declared.words_fault.WordsKind.TheVariants as kind
 use Rattle.mc_model.specs.Words.{SpellsBody}
 use Rattle.mc_model.specs.Reading.{◌>>=◌, at_end, number_or_fault, number_in, body_in, last_number_in, flags_and_body_in}
-use Rattle.mc_model.proofs.Readings.{steps-ok, ok-same}
-use Rattle.mc_model.proofs.BodyWords.{body-spelled}
+use Rattle.mc_model.proofs.{Readings.steps-ok, Readings.ok-same, BodyWords.body-spelled}
 
 -- a reading that gave a number
 read-number : (r : Result ℕ DecimalFault) (n : ℕ) → number_or_fault r ≡ Ok n → r ≡ Ok n

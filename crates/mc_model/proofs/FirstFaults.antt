@@ -1,16 +1,12 @@
 -- The first fault of sections: there is one where they are no history, and only one.
 use Rattle.std.proofs.Common.{◌≡◌, ◌⊎◌, inl, inr, ℕ, ◌<◌, true, false, Option, Some, None, List, [], ◌∷◌, ◌++◌, length, take, slice_get}
 use Rattle.std.proofs.Common.{append_assoc, append-nil, length-take, length-append, take-take, arith, refl, sym, ap, subst, ◌∙◌}
-use Rattle.std.proofs.lemmas.Bool.{both_ways, cases_order}
-use Rattle.std.proofs.lemmas.List.{take_at, get_or_at, get_or-take}
 use Rattle.std.proofs.lemmas.Option.{slice_get_within, slice_get-get_or, get_or_from_slice_get, same_Some}
-use Rattle.mc_model.specs.Types.{Actor, Sent, HistoryKind}
+use Rattle.std.proofs.{lemmas.Bool.both_ways, lemmas.Bool.cases_order, lemmas.List.take_at, lemmas.List.get_or_at, lemmas.List.get_or-take}
+use Rattle.mc_model.specs.{Types.Actor, Types.Sent, Types.HistoryKind, Sections.Sections, Sections.no_sections, Sections.before, History.is_history}
+use Rattle.mc_model.specs.{History.comes_late, History.fault_at, History.IsFirstFault, Next.with_section, Next.FailsAt}
 use Rattle.mc_protocol.specs.declared.actor.Actor.TheVariants as actor
-use Rattle.mc_model.specs.Sections.{Sections, no_sections, before}
-use Rattle.mc_model.specs.History.{is_history, comes_late, fault_at, IsFirstFault}
-use Rattle.mc_model.specs.Next.{with_section, FailsAt}
-use Rattle.mc_model.proofs.Faults.{nothing_sent, no_fault}
-use Rattle.mc_model.proofs.Prefixes.{no_history, added_last}
+use Rattle.mc_model.proofs.{Faults.nothing_sent, Faults.no_fault, Prefixes.no_history, Prefixes.added_last}
 
 -- sections whose part before one first fault has another, are none
 clash : (s : Sections) (k j : HistoryKind) (who other : Actor) (n m : ℕ) → IsFirstFault (before s other m) k who n → IsFirstFault s j other m → ⊥

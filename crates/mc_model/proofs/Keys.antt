@@ -1,15 +1,11 @@
 -- The keys of requests: which there are, and how many with one more request.
 use Rattle.std.proofs.Common.{◌≡◌, ℕ, ◌+◌, Bool, cond, ◌||◌, bytes_eq, List, [], ◌∷◌, ◌++◌, append_assoc, append-nil, refl, sym, ap, ap₂, ◌∙◌, arith}
-use Rattle.std.specs.Ordering.{nat_cmp}
-use Rattle.std.specs.Cmp.Lexicographic.{slice_cmp, texts_ties}
-use Rattle.std.specs.FinSet as set
+use Rattle.std.proofs.{lemmas.Cmp.nat_list_cmp_total, lemmas.Slice.Eq.bytes_eq-Decides, lemmas.Bool.Decides.same_from_decides, lemmas.Bool.Decides.Decides-like}
 use Rattle.std.specs.FinMap.{slice_cmp-IsAntisymmetric, nat_cmp-IsAntisymmetric}
-use Rattle.std.proofs.lemmas.{Cmp.nat_list_cmp_total, Slice.Eq.bytes_eq-Decides}
-use Rattle.std.proofs.lemmas.Bool.Decides.{same_from_decides, Decides-like}
-use Rattle.mc_model.specs.Types.{Actor, Sent}
+use Rattle.std.specs.{Ordering.nat_cmp, Cmp.Lexicographic.slice_cmp, Cmp.Lexicographic.texts_ties}
+use Rattle.std.specs.FinSet as set
+use Rattle.mc_model.specs.{Types.Actor, Types.Sent, Sections.Sections, Sections.with_sent, History.is_on, History.has_key, History.keys_of, History.key_count}
 use Rattle.mc_protocol.specs.declared.actor.Actor.TheVariants as actor
-use Rattle.mc_model.specs.Sections.{Sections, with_sent}
-use Rattle.mc_model.specs.History.{is_on, has_key, keys_of, key_count}
 
 -- the two sides of a test of bytes may change places
 pub bytes_eq_sym : (x y : List ℕ) → bytes_eq x y ≡ bytes_eq y x

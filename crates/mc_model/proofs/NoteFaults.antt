@@ -4,23 +4,19 @@ use Rattle.std.proofs.Common.{Result, Ok, Err, is_err, OnOk, IfOk, IfErr, List, 
 use Rattle.std.proofs.Common.{append_assoc, take-append-drop, subst, refl, sym, ap, ap₂, ◌∙◌, arith}
 use Rattle.std.proofs.lemmas.Bool.{cases_Bool, and_parts, and_from, false_from_ne_true, not-true}
 use Rattle.mc_protocol.specs.Legal.{is_fit}
-use Rattle.mc_model.specs.Types.{Actor, Request, Reply, Sent, HistoryKind}
-use Rattle.mc_protocol.specs.declared.actor.Actor.TheVariants as actor
-use Rattle.mc_model.specs.declared.note.Note.TheVariants as note
-use Rattle.mc_model.specs.declared.rules.HistoryKind.TheVariants as kind
-use Rattle.mc_model.specs.Sections.{Sections, section_of, with_sent}
 use Rattle.mc_model.specs.History.{all_have_words, is_within_limits, is_in_turn, is_cleared, numbers_are_seen, are_answered_rightly}
 use Rattle.mc_model.specs.History.{are_answered, is_none_sent, is_history, first_broken, fault_at, comes_late}
 use Rattle.mc_model.specs.Next.{may_come, last_of, reply_fault, after_note, note_fault}
 use Rattle.mc_model.specs.Notes.{Noted, requests_in, replies_in, sections_in, is_waiting, is_out_of_order}
 use Rattle.mc_model.specs.Notes.{are_in_order, is_record, fault_of, IsFirstFaultOfNotes}
-use Rattle.mc_model.proofs.Faults.{rules_of, none_failed, nothing_sent}
-use Rattle.mc_model.proofs.Turns.{turn_added}
-use Rattle.mc_model.proofs.Seen.{and_once, and_assoc}
-use Rattle.mc_model.proofs.Prefixes.{history_before, next_of}
+use Rattle.mc_model.specs.{Types.Actor, Types.Request, Types.Reply, Types.Sent, Types.HistoryKind, Sections.Sections, Sections.section_of, Sections.with_sent}
+use Rattle.mc_protocol.specs.declared.actor.Actor.TheVariants as actor
+use Rattle.mc_model.specs.declared.note.Note.TheVariants as note
+use Rattle.mc_model.specs.declared.rules.HistoryKind.TheVariants as kind
 use Rattle.mc_model.proofs.Answering.{ends, last_of-push, answered_push, awaited_in_time, waits, fault_with_reply, unanswered_history}
 use Rattle.mc_model.proofs.Noting.{IsBalanced, section_in, balanced_along, waiting_last, waits_for_one, sections-begin}
-use Rattle.mc_model.proofs.Noting.{sections-reply, sections-no_reply, no_more_requests}
+use Rattle.mc_model.proofs.{Faults.rules_of, Faults.none_failed, Faults.nothing_sent, Turns.turn_added, Seen.and_once, Seen.and_assoc, Prefixes.history_before}
+use Rattle.mc_model.proofs.{Prefixes.next_of, Noting.sections-reply, Noting.sections-no_reply, Noting.no_more_requests}
 
 -- ---- notes that make a history
 

@@ -3,14 +3,12 @@ use Rattle.std.proofs.Common.{◌≡◌, ℕ, suc, nat_le, ◌+◌, ◌<◌, ◌
 use Rattle.std.proofs.Common.{map, if◌then◌else◌, arith, refl, sym, ap, ap₂, subst, ◌∙◌, length-append, append-nil, append_assoc}
 use Rattle.std.proofs.lemmas.Bool.{and_parts, not-true, leb-true, leb-false, le-leb, lt-leb}
 use Rattle.std.proofs.lemmas.{Bool.Decides.nat_tests, List.map-append, List.Concat.flat_map-append}
-use Rattle.mc_model.specs.Types.{Actor, Request, Reply, Sent, Note}
-use Rattle.mc_protocol.specs.declared.actor.Actor.TheVariants as actor
-use Rattle.mc_model.specs.declared.note.Note.TheVariants as note
-use Rattle.mc_model.specs.Sections.{section_of, with_sent}
-use Rattle.mc_model.specs.History.{are_answered, comes_late}
-use Rattle.mc_model.specs.Next.{with_section, with_last_reply, after_reply}
 use Rattle.mc_model.specs.Notes.{Noted, begun_by, replied_by, requests_in, replies_in, with_replies, sent_in, sections_in, is_waiting}
 use Rattle.mc_model.specs.Notes.{is_out_of_order, are_in_order, is_same_section, begins, notes_before_each, answered_before_each}
+use Rattle.mc_model.specs.{Types.Actor, Types.Request, Types.Reply, Types.Sent, Types.Note, Sections.section_of, Sections.with_sent, History.are_answered}
+use Rattle.mc_model.specs.{History.comes_late, Next.with_section, Next.with_last_reply, Next.after_reply}
+use Rattle.mc_protocol.specs.declared.actor.Actor.TheVariants as actor
+use Rattle.mc_model.specs.declared.note.Note.TheVariants as note
 use Rattle.mc_model.proofs.Prefixes.{added_last, same_section}
 
 -- ---- requests and replies with one more note

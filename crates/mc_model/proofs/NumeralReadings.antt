@@ -1,18 +1,16 @@
 -- What a body says as a number, by the digits that it begins with.
 use Rattle.std.proofs.Common.{◌≡◌, ℕ, ◌<◌, ◌≤◌, ◌^◌, Bool, true, false, not, cond, leb, Some, List}
 use Rattle.std.proofs.Common.{[], ◌∷◌, ◌++◌, length, take, drop, replicate, refl, sym, ap, ◌∙◌, arith, zero, suc}
+use Rattle.std.proofs.lemmas.{List.take-append-drop, List.Sums.take_while-cons, List.Folds.length-prefix_len, Bool.Decides.nat_tests}
+use Rattle.std.proofs.lemmas.Fmt.{digits_decimal, digits_value-decimal, length-decimal-le, decimal_nonempty}
+use Rattle.std.proofs.{Math.Seq.drop-append_seam, lemmas.Bool.leb-true, lemmas.Bool.eqb-true, lemmas.Bool.and_parts, lemmas.Bool.and_from, lemmas.Bool.le-leb}
 use Rattle.std.specs.List.{list_all, take_while}
 use Rattle.std.specs.{Str.Parse.digits_value, Fmt.decimal}
-use Rattle.std.proofs.Math.Seq.{drop-append_seam}
-use Rattle.std.proofs.lemmas.{List.take-append-drop, List.Sums.take_while-cons, List.Folds.length-prefix_len, Bool.Decides.nat_tests}
-use Rattle.std.proofs.lemmas.Bool.{leb-true, eqb-true, and_parts, and_from, le-leb}
-use Rattle.std.proofs.lemmas.Fmt.{digits_decimal, digits_value-decimal, length-decimal-le, decimal_nonempty}
 use Rattle.mc_protocol.specs.Decimals.{are_digits, is_digit}
 use Rattle.mc_protocol.proofs.Digits.{digits as own}
-use Rattle.mc_model.specs.Types.{Numeral, NoNumber, Is, MayBe}
 use Rattle.mc_model.specs.Numeral.{numeral_of, numeral_of_parts, leading_digits, after_digits, ends_or_has_space}
-use Rattle.mc_model.specs.Numeral.{are_spaces, is_readable, is_plain_numeral, read_as}
-use Rattle.mc_model.specs.NumeralLaws.{BeginsWithNumber, IsPlainNumber, WillingReads, StrictReads}
+use Rattle.mc_model.specs.{Types.Numeral, Types.NoNumber, Types.Is, Types.MayBe, Numeral.are_spaces, Numeral.is_readable, Numeral.is_plain_numeral}
+use Rattle.mc_model.specs.{Numeral.read_as, NumeralLaws.BeginsWithNumber, NumeralLaws.IsPlainNumber, NumeralLaws.WillingReads, NumeralLaws.StrictReads}
 
 -- what is taken while a test passes does pass
 passing : {X : Type 0} (p : X → Bool) (xs : List X) → list_all p (take_while p xs) ≡ true

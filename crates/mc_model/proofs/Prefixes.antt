@@ -1,18 +1,15 @@
 -- What stands before a request of a history is a history.
 use Rattle.std.proofs.Common.{◌≡◌, ℕ, ◌+◌, Bool, true, false, not, ◌&&◌, ◌||◌, Some, None, List, [], ◌∷◌, ◌++◌, take, drop, slice_get}
 use Rattle.std.proofs.Common.{append_assoc, append-nil, take-append-drop, refl, sym, ap, subst, ◌∙◌, arith}
-use Rattle.std.proofs.lemmas.Bool.{and_parts, false_from_ne_true}
-use Rattle.std.proofs.lemmas.List.{take_more}
 use Rattle.std.proofs.lemmas.Option.{slice_get_within, get_or_from_slice_get}
-use Rattle.mc_model.specs.Types.{Actor, Sent, HistoryKind}
-use Rattle.mc_protocol.specs.declared.actor.Actor.TheVariants as actor
+use Rattle.std.proofs.{lemmas.Bool.and_parts, lemmas.Bool.false_from_ne_true, lemmas.List.take_more}
 use Rattle.mc_model.specs.Sections.{Sections, with_sent, before, section_of}
 use Rattle.mc_model.specs.History.{has_words, all_have_words, has_few_requests, has_few_keys, is_in_turn, is_cleared, numbers_are_seen}
 use Rattle.mc_model.specs.History.{is_answered_rightly, are_answered_rightly, is_history, comes_late, IsFirstFault}
-use Rattle.mc_model.specs.Next.{may_come, with_section}
+use Rattle.mc_model.specs.{Types.Actor, Types.Sent, Types.HistoryKind, Next.may_come, Next.with_section}
+use Rattle.mc_protocol.specs.declared.actor.Actor.TheVariants as actor
 use Rattle.mc_model.proofs.{Added.every_added, Turns.turn_added, Cleared.cleared_added, Seen.numbers_added}
-use Rattle.mc_model.proofs.Limits.{requests_added, keys_added}
-use Rattle.mc_model.proofs.Faults.{rules_of, history_of, no_fault_of}
+use Rattle.mc_model.proofs.{Limits.requests_added, Limits.keys_added, Faults.rules_of, Faults.history_of, Faults.no_fault_of}
 
 first : (x y : Bool) (z : Bool) → z ≡ (x && y) → z ≡ true → x ≡ true
 first x y z e all = (and_parts x y (sym e ∙ all)).0

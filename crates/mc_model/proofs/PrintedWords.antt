@@ -1,21 +1,19 @@
 -- What is printed spells the value.
 use Rattle.std.proofs.Common.{◌≡◌, ℕ, ◌/◌, ◌%◌, ◌<◌, ◌≤◌, ◌==◌, ◌++◌, nat_le, Bool, true, false, ◌&&◌, cond, Option}
 use Rattle.std.proofs.Common.{Some, None, List, [], ◌∷◌, length, decimal, refl, sym, subst, inl, inr, arith}
-use Rattle.std.specs.{List.flat_map, Fmt.digit_glyph, Option.IfSome}
 use Rattle.std.proofs.lemmas.Bool.{and_parts, eqb-true, leb-true, le-leb}
-use Rattle.std.proofs.lemmas.Bool.Decides.{nat_tests}
-use Rattle.std.proofs.lemmas.List.Elements.{All-head, All-tail}
+use Rattle.std.proofs.{lemmas.Bool.Decides.nat_tests, lemmas.List.Elements.All-head, lemmas.List.Elements.All-tail}
+use Rattle.std.specs.{List.flat_map, Fmt.digit_glyph, Option.IfSome}
 use Rattle.mc_protocol.specs.{Fields.fields_of, Names.is_key}
-use Rattle.mc_model.specs.Types.{REPLY_BODY_LIMIT, Fields, Request, Reply, Word}
+use Rattle.mc_model.specs.Words.{SpellsByte, SpellsBytes, SpellsBody, SpellsFields, SpellsRequest, SpellsShown, SpellsReply, is_plain, hex_value}
+use Rattle.mc_model.specs.Words.{escaped_byte, printed_byte, body_word, field_words, request_words, shown_words, reply_words}
+use Rattle.mc_model.specs.WordLaws.{AreBytes, FitsRequest, FitsReply, has_short_body, PrintedWordsSpellTheRequest, PrintedWordsSpellTheReply}
+use Rattle.mc_model.specs.{Types.REPLY_BODY_LIMIT, Types.Fields, Types.Request, Types.Reply, Types.Word, History.has_words, History.has_its_fields}
+use Rattle.mc_model.specs.{History.lacks_the_others, History.is_empty, WordLaws.SpelledRequestsHaveWords, WordLaws.SpelledRepliesHaveShortBodies}
 use Rattle.mc_protocol.specs.declared.request.Fields.TheVariants as fields
 use Rattle.mc_protocol.specs.declared.reply.Reply.TheVariants as reply
 use Rattle.mc_protocol.specs.Decimals.{MAX_32, MAX_64}
 use Rattle.mc_protocol.proofs.Decimals.{decimal-spells}
-use Rattle.mc_model.specs.Words.{SpellsByte, SpellsBytes, SpellsBody, SpellsFields, SpellsRequest, SpellsShown, SpellsReply, is_plain, hex_value}
-use Rattle.mc_model.specs.Words.{escaped_byte, printed_byte, body_word, field_words, request_words, shown_words, reply_words}
-use Rattle.mc_model.specs.History.{has_words, has_its_fields, lacks_the_others, is_empty}
-use Rattle.mc_model.specs.WordLaws.{AreBytes, FitsRequest, FitsReply, has_short_body, PrintedWordsSpellTheRequest, PrintedWordsSpellTheReply}
-use Rattle.mc_model.specs.WordLaws.{SpelledRequestsHaveWords, SpelledRepliesHaveShortBodies}
 
 -- ---- bodies
 

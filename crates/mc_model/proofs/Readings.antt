@@ -2,8 +2,8 @@
 use Rattle.std.proofs.Common.{◌≡◌, ◌≢◌, Bool, true, false, cond, Result, Ok, Err, refl}
 use Rattle.std.specs.Result.{IfOk, IfErr}
 use Rattle.mc_model.specs.Types.{WordsFault, WordsKind}
-use Rattle.mc_model.specs.declared.words_fault.WordsKind.TheVariants as kind
 use Rattle.mc_model.specs.Reading.{◌>>=◌, Gives, Fails}
+use Rattle.mc_model.specs.declared.words_fault.WordsKind.TheVariants as kind
 
 -- a test that let a reading through held
 pub then-ok : {A E : Type 0} (b : Bool) (r : Result A E) (e : E) (x : A) → cond b r (Err e) ≡ Ok x → (b ≡ true) × (r ≡ Ok x)

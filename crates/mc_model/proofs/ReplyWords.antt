@@ -1,19 +1,17 @@
 -- Words are read as a reply exactly where they spell it.
 use Rattle.std.proofs.Common.{◌≡◌, ℕ, Option, Some, None, Ok, List, [], ◌∷◌, refl, sym, ap, ◌∙◌, subst}
-use Rattle.std.specs.Str.{bytes_eq}
 use Rattle.std.proofs.lemmas.Slice.Eq.{bytes_eq-Decides}
+use Rattle.std.specs.Str.{bytes_eq}
 use Rattle.mc_protocol.specs.{Legal.class_of, Words.all_classes}
-use Rattle.mc_model.specs.Types.{Reply, Class, Word}
+use Rattle.mc_model.specs.Reading.{◌>>=◌, at_end, last_number_in, flags_and_body_in, class_of_word}
+use Rattle.mc_model.specs.Reading.{shown_number_in, hit_in, after_class, reply_in}
+use Rattle.mc_model.specs.{Types.Reply, Types.Class, Types.Word, Words.SpellsShown, Words.SpellsReply, Words.class_word}
 use Rattle.mc_protocol.specs.declared.reply.Reply.TheVariants as reply
 use Rattle.mc_protocol.specs.declared.reply.Class.TheVariants as class
 use Rattle.mc_protocol.specs.Decimals.{MAX_32, MAX_64}
 use Rattle.mc_protocol.proofs.Found.{find-passes}
-use Rattle.mc_model.specs.Words.{SpellsShown, SpellsReply, class_word}
-use Rattle.mc_model.specs.Reading.{◌>>=◌, at_end, last_number_in, flags_and_body_in, class_of_word}
-use Rattle.mc_model.specs.Reading.{shown_number_in, hit_in, after_class, reply_in}
-use Rattle.mc_model.proofs.Readings.{steps-ok, ok-same}
-use Rattle.mc_model.proofs.BodyWords.{body-read}
 use Rattle.mc_model.proofs.FieldWords.{number-read, at_end-ok, last_number-spelled, flags_and_body-spelled}
+use Rattle.mc_model.proofs.{Readings.steps-ok, Readings.ok-same, BodyWords.body-read}
 
 -- ---- classes
 

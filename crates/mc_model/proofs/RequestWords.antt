@@ -1,18 +1,15 @@
 -- Words are read as a request exactly where they spell it.
 use Rattle.std.proofs.Common.{◌≡◌, ◌≢◌, ℕ, ◌==◌, Bool, true, false, Option, Some, None, is_some, Ok, List, [], ◌∷◌, codes, refl, sym, ap, ◌∙◌, subst}
 use Rattle.std.proofs.lemmas.Bool.{false≢true}
-use Rattle.mc_protocol.specs.Words.{verb_word, verb_of}
+use Rattle.mc_protocol.specs.{Words.verb_word, Words.verb_of, Decimals.are_digits, Decimals.MAX_32, Decimals.MAX_64}
 use Rattle.mc_protocol.specs.{Fields.fields_of, Names.is_key}
-use Rattle.mc_model.specs.Types.{Verb, Fields, Request, Word}
+use Rattle.mc_model.specs.Reading.{◌>>=◌, at_end, last_number_in, flags_and_body_in, fields_in, request_of, after_verb, request_in}
+use Rattle.mc_model.specs.{Types.Verb, Types.Fields, Types.Request, Types.Word, Words.SpellsBody, Words.SpellsFields, Words.SpellsRequest}
 use Rattle.mc_protocol.specs.declared.request.Fields.TheVariants as fields
-use Rattle.mc_protocol.specs.Decimals.{are_digits, MAX_32, MAX_64}
 use Rattle.mc_protocol.proofs.OfWords.{verb_of-word, word-of_verb}
 use Rattle.mc_model.specs.declared.words_fault.WordsKind.TheVariants as kind
-use Rattle.mc_model.specs.Words.{SpellsBody, SpellsFields, SpellsRequest}
-use Rattle.mc_model.specs.Reading.{◌>>=◌, at_end, last_number_in, flags_and_body_in, fields_in, request_of, after_verb, request_in}
-use Rattle.mc_model.proofs.Readings.{then-ok, steps-ok, ok-same}
-use Rattle.mc_model.proofs.BodyWords.{body-read}
 use Rattle.mc_model.proofs.FieldWords.{number-read, at_end-ok, last_number-spelled, flags_and_body-spelled}
+use Rattle.mc_model.proofs.{Readings.then-ok, Readings.steps-ok, Readings.ok-same, BodyWords.body-read}
 
 -- ---- what comes after the key, by its shape
 

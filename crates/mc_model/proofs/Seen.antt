@@ -1,14 +1,11 @@
 -- Cas numbers that were shown, with one more request.
 use Rattle.std.proofs.Common.{◌≡◌, Bool, true, false, not, ◌&&◌, ◌||◌, List, [], ◌∷◌, ◌++◌, append_assoc, append-nil, sym, ap, ◌∙◌, arith}
-use Rattle.std.specs.List.{list_any}
 use Rattle.std.proofs.lemmas.List.Folds.{list_any-append}
-use Rattle.mc_model.specs.Types.{Actor, Sent}
-use Rattle.mc_protocol.specs.declared.actor.Actor.TheVariants as actor
-use Rattle.mc_model.specs.Sections.{Sections, with_sent}
+use Rattle.std.specs.List.{list_any}
 use Rattle.mc_model.specs.History.{is_cas, shows, is_seen, are_seen, numbers_are_seen, comes_late}
-use Rattle.mc_model.specs.Next.{number_is_seen}
-use Rattle.mc_model.proofs.Added.{and_second, and_last}
-use Rattle.mc_model.proofs.Turns.{no_branch}
+use Rattle.mc_model.specs.{Types.Actor, Types.Sent, Sections.Sections, Sections.with_sent, Next.number_is_seen}
+use Rattle.mc_protocol.specs.declared.actor.Actor.TheVariants as actor
+use Rattle.mc_model.proofs.{Added.and_second, Added.and_last, Turns.no_branch}
 
 pub and_once : (x : Bool) → (x && true) ≡ x
 and_once x = grind arith

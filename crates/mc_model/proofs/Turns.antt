@@ -1,11 +1,9 @@
 -- Whose turn it is.
 use Rattle.std.proofs.Common.{◌≡◌, Bool, true, false, not, ◌&&◌, ◌||◌, is_some, List, [], ◌∷◌, ◌++◌, refl, ap, arith}
 use Rattle.std.proofs.lemmas.Bool.{and_parts, and_from, not-false}
-use Rattle.mc_model.specs.Types.{Actor, Sent}
-use Rattle.mc_protocol.specs.declared.actor.Actor.TheVariants as actor
-use Rattle.mc_model.specs.Sections.{Sections, with_sent}
 use Rattle.mc_model.specs.History.{are_answered, is_open_at_the_end, is_none_sent, has_no_branch, is_in_turn, comes_late}
-use Rattle.mc_model.specs.Next.{may_come}
+use Rattle.mc_model.specs.{Types.Actor, Types.Sent, Sections.Sections, Sections.with_sent, Next.may_come}
+use Rattle.mc_protocol.specs.declared.actor.Actor.TheVariants as actor
 
 -- one more request may come where all were answered
 pub open_added : (xs : List Sent) (sent : Sent) → is_open_at_the_end (xs ++ sent ∷ []) ≡ are_answered xs

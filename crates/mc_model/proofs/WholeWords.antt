@@ -1,23 +1,21 @@
 -- Words that spell something are whole, and whole words that were joined fall apart again.
 use Rattle.std.proofs.Common.{◌≡◌, ℕ, ◌==◌, nat_le, Bool, true, false, not, ◌&&◌, Option, Some}
 use Rattle.std.proofs.Common.{None, List, [], ◌∷◌, length, filter, refl, ap, ◌∙◌, inl, inr, arith}
-use Rattle.std.specs.List.{All, list_all, slice_split}
-use Rattle.std.proofs.lemmas.Bool.{and_parts, and_from}
 use Rattle.std.proofs.lemmas.{Bool.Decides.nat_tests, List.Elements.All-weaker, List.Folds.list_all-append}
-use Rattle.std.proofs.lemmas.List.Splits.{slice_split_none, slice_split_at}
 use Rattle.std.proofs.lemmas.List.Sums.{AllPass-from_list_all, list_all-from_AllPass}
+use Rattle.std.proofs.{lemmas.Bool.and_parts, lemmas.Bool.and_from, lemmas.List.Splits.slice_split_none, lemmas.List.Splits.slice_split_at}
+use Rattle.std.specs.List.{All, list_all, slice_split}
 use Rattle.mc_protocol.specs.{Words.verb_word, Fields.fields_of}
-use Rattle.mc_protocol.specs.Lines.{separates, Word}
 use Rattle.mc_protocol.specs.declared.{lines.Separator.Separator, limits.TheConstants.KEY_BYTES_LIMIT}
+use Rattle.mc_protocol.specs.Decimals.{SpellsNumber, is_digit, MAX_32, MAX_64}
+use Rattle.mc_protocol.specs.{Lines.separates, Lines.Word, Names.is_key, Names.is_name_byte, Names.are_name_bytes}
 use Rattle.mc_protocol.specs.declared.lines.Separator.TheVariants as separator
 use Rattle.mc_model.specs.Types.{Verb, Fields, Request}
+use Rattle.mc_model.specs.Words.{SpellsBytes, SpellsBody, SpellsFields, SpellsRequest, SpellsShown, SpellsReply, is_plain, hex_value, join_words}
+use Rattle.mc_model.specs.WordLaws.{is_visible, is_whole, are_whole, is_in_line, SpellingWordsAreWhole, JoinedWordsFallApart, JoinedWordsEndNoLine}
 use Rattle.mc_protocol.specs.declared.request.Verb.TheVariants as verb
 use Rattle.mc_protocol.specs.declared.request.Fields.TheVariants as fields
 use Rattle.mc_protocol.specs.declared.reply.Reply.TheVariants as reply
-use Rattle.mc_protocol.specs.Decimals.{SpellsNumber, is_digit, MAX_32, MAX_64}
-use Rattle.mc_protocol.specs.Names.{is_key, is_name_byte, are_name_bytes}
-use Rattle.mc_model.specs.Words.{SpellsBytes, SpellsBody, SpellsFields, SpellsRequest, SpellsShown, SpellsReply, is_plain, hex_value, join_words}
-use Rattle.mc_model.specs.WordLaws.{is_visible, is_whole, are_whole, is_in_line, SpellingWordsAreWhole, JoinedWordsFallApart, JoinedWordsEndNoLine}
 
 -- ---- bytes
 

@@ -3,10 +3,9 @@ use Rattle.std.specs.Prelude.{ℕ, ◌+◌, ◌-◌, ◌%◌, ◌^◌, ◌==◌,
 use Rattle.std.specs.Prelude.{None, List, ◌++◌, length, decimal, replicate, if◌then◌else◌}
 use Rattle.std.specs.FinMap as finite_map
 use Rattle.mc_model.specs.Types.{Request, Verb, Reply, Item, Choice}
+use Rattle.mc_model.specs.{Contents.Contents, Numeral.numeral_of, Numeral.read_as}
 use Rattle.mc_protocol.specs.declared.request.Verb.TheVariants as verb
 use Rattle.mc_protocol.specs.declared.reply.Reply.TheVariants as reply
-use Rattle.mc_model.specs.Contents.{Contents}
-use Rattle.mc_model.specs.Numeral.{numeral_of, read_as}
 
 -- what becomes of the item at the request's key
 pub data Change : Type 0 where

@@ -3,11 +3,11 @@ use Rattle.std.specs.Prelude.{◌≡◌, ◌≢◌, ℕ, ◌+◌, ◌≤◌, Boo
 use Rattle.std.specs.FinMap as finite_map
 use Rattle.mc_protocol.specs.Legal.{class_of, is_fit}
 use Rattle.mc_model.specs.Types.{Request, Verb, Class, REPLY_BODY_LIMIT, Item, Numeral, NoNumber, Is, MayBe, Choice}
+use Rattle.mc_model.specs.Act.{act, effect_of, Puts}
 use Rattle.mc_protocol.specs.declared.request.Verb.TheVariants as verb
 use Rattle.mc_protocol.specs.declared.reply.Class.TheVariants as class
 use Rattle.mc_protocol.specs.declared.reply.Reply.TheVariants as reply
 use Rattle.mc_model.specs.{Contents.Contents, Numeral.numeral_of}
-use Rattle.mc_model.specs.Act.{act, effect_of, Puts}
 
 -- a request leaves what is at every other key
 abbrev pub OtherKeysStay : Type 0

@@ -1,7 +1,6 @@
 -- What a cache holds.
-use Rattle.std.specs.Prelude.{ℕ, List, refl}
+use Rattle.std.specs.{Prelude.ℕ, Prelude.List, Prelude.refl, Coded.Coded, Coded.code_by, Coded.coded×, Coded.coded_ℕ, Coded.coded_list}
 use Rattle.std.specs.{Ordering.nat_cmp, Cmp.Lexicographic.slice_cmp}
-use Rattle.std.specs.Coded.{Coded, code_by, coded×, coded_ℕ, coded_list}
 use Rattle.std.specs.FinMap as finite_map
 use Rattle.mc_model.specs.declared.cache.Item.{Item}
 

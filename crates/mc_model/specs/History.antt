@@ -6,12 +6,12 @@ use Rattle.std.specs.{Str.bytes_eq, Ordering.nat_cmp, Cmp.Lexicographic.slice_cm
 use Rattle.std.specs.FinSet as set
 use Rattle.mc_protocol.specs.{Legal.is_fit, Fields.fields_of, Names.is_key}
 use Rattle.mc_model.specs.Types.{Fields, Verb, Request, Reply, Actor, REPLY_BODY_LIMIT, KEYS_LIMIT, REQUESTS_LIMIT, Sent, HistoryKind}
+use Rattle.mc_model.specs.Sections.{Sections, section_of, with_sent, before}
 use Rattle.mc_protocol.specs.declared.request.Fields.TheVariants as fields
 use Rattle.mc_protocol.specs.declared.request.Verb.TheVariants as verb
 use Rattle.mc_protocol.specs.declared.reply.Reply.TheVariants as replies
 use Rattle.mc_protocol.specs.declared.actor.Actor.TheVariants as actor
 use Rattle.mc_model.specs.declared.rules.HistoryKind.TheVariants as kind
-use Rattle.mc_model.specs.Sections.{Sections, section_of, with_sent, before}
 
 -- every request of the sections passes the test
 abbrev pub every : (Sent → Bool) → Sections → Bool

@@ -1,8 +1,7 @@
 -- What follows from the rules of a history.
 use Rattle.std.specs.Prelude.{◌≡◌, ◌↔◌, ℕ, true, false, None}
-use Rattle.mc_model.specs.Types.{Actor, Sent, HistoryKind}
-use Rattle.mc_model.specs.Sections.{Sections, with_sent, before}
 use Rattle.mc_model.specs.History.{is_history, comes_late, fault_at, IsFirstFault}
+use Rattle.mc_model.specs.{Types.Actor, Types.Sent, Types.HistoryKind, Sections.Sections, Sections.with_sent, Sections.before}
 
 -- a history without its last request is a history
 abbrev pub PrefixesAreHistories : Type 0

@@ -3,13 +3,12 @@
 use Rattle.std.specs.Prelude.{◌≡◌, ℕ, ◌+◌, nat_le, ◌-◌, Bool, true, not, ◌&&◌, ◌||◌, Option, Some}
 use Rattle.std.specs.Prelude.{None, is_some, List, [], ◌∷◌, length, take, if◌then◌else◌, slice_get}
 use Rattle.mc_model.specs.Types.{Actor, KEYS_LIMIT, REQUESTS_LIMIT, Sent, HistoryKind, Reply}
+use Rattle.mc_model.specs.History.{is_history, fault_at, key_count, has_key, are_answered, is_none_sent, is_delete, is_seen}
+use Rattle.mc_model.specs.{Sections.Sections, Sections.section_of, Sections.with_sent, Notes.Noted, Notes.is_same_section}
 use Rattle.mc_protocol.specs.declared.actor.Actor.TheVariants as actor
-use Rattle.mc_model.specs.Sections.{Sections, section_of, with_sent}
-use Rattle.mc_model.specs.Notes.{Noted, is_same_section}
 use Rattle.mc_model.specs.declared.note.Note.TheVariants as note
 use Rattle.mc_model.specs.declared.rules.HistoryKind.TheVariants as kind
 use Rattle.mc_protocol.specs.Legal.{is_fit}
-use Rattle.mc_model.specs.History.{is_history, fault_at, key_count, has_key, are_answered, is_none_sent, is_delete, is_seen}
 
 abbrev pub is_full : Sections → Actor → Sent → Bool
 is_full s actor sent =

@@ -2,11 +2,10 @@
 use Rattle.std.specs.Prelude.{◌≡◌, ℕ, Bool, true, false, not, ◌&&◌, ◌||◌, Option, Some, None, List}
 use Rattle.std.specs.Prelude.{[], ◌∷◌, ◌++◌, length, map, take, slice_get, get_or, if◌then◌else◌}
 use Rattle.std.specs.List.{flat_map}
-use Rattle.mc_model.specs.Types.{Actor, Request, Reply, Sent, Note, HistoryKind}
+use Rattle.mc_model.specs.{Types.Actor, Types.Request, Types.Reply, Types.Sent, Types.Note, Types.HistoryKind, Sections.Sections}
+use Rattle.mc_model.specs.{Sections.section_of, History.is_history, History.are_answered, History.comes_late, History.first_broken}
 use Rattle.mc_protocol.specs.declared.actor.Actor.TheVariants as actor
 use Rattle.mc_model.specs.declared.note.Note.TheVariants as note
-use Rattle.mc_model.specs.Sections.{Sections, section_of}
-use Rattle.mc_model.specs.History.{is_history, are_answered, comes_late, first_broken}
 
 -- a note with its section
 abbrev pub Noted : Type 0

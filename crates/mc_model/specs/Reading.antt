@@ -2,17 +2,16 @@
 -- `read_body` cite it, to say which kind comes. `Words.antt` says what words spell, and the proofs join the two.
 use Rattle.std.specs.Prelude.{◌≡◌, ℕ, ◌+◌, ◌*◌, ◌==◌, nat_le, Option, Some, None, Result, Ok, Err, List, [], ◌∷◌, length, if◌then◌else◌}
 use Rattle.std.specs.{List.find, Str.bytes_eq}
-use Rattle.mc_protocol.specs.Words.{verb_of, all_classes}
+use Rattle.mc_protocol.specs.declared.decimal.DecimalFault.{DecimalFault}
+use Rattle.mc_protocol.specs.{Words.verb_of, Words.all_classes, Decimals.decimal_in, Decimals.MAX_32, Decimals.MAX_64}
 use Rattle.mc_protocol.specs.{Fields.fields_of, Names.is_key}
 use Rattle.mc_model.specs.Types.{Verb, Fields, Request, Reply, Class, REPLY_BODY_LIMIT, Word, WordsFault, WordsKind}
+use Rattle.mc_model.specs.Words.{is_plain, hex_value, class_word}
 use Rattle.mc_protocol.specs.declared.request.Fields.TheVariants as fields
 use Rattle.mc_protocol.specs.declared.reply.Reply.TheVariants as reply
 use Rattle.mc_protocol.specs.declared.reply.Class.TheVariants as class
-use Rattle.mc_protocol.specs.declared.decimal.DecimalFault.{DecimalFault}
 use Rattle.mc_protocol.specs.declared.decimal.DecimalFault.TheVariants as decimal
-use Rattle.mc_protocol.specs.Decimals.{decimal_in, MAX_32, MAX_64}
 use Rattle.mc_model.specs.declared.words_fault.WordsKind.TheVariants as kind
-use Rattle.mc_model.specs.Words.{is_plain, hex_value, class_word}
 
 infixl 10 ◌>>=◌
 abbrev pub ◌>>=◌ : {A B : Type 0} → Result A WordsKind → (A → Result B WordsKind) → Result B WordsKind

@@ -1,13 +1,10 @@
 -- What holds of the words that spell requests and replies, and of the words that are printed.
 use Rattle.std.specs.Prelude.{◌≡◌, ℕ, ◌<◌, ◌≤◌, ◌==◌, nat_le, Bool, true, not, ◌&&◌, IfSome, List, length}
 use Rattle.std.specs.List.{All, list_all}
-use Rattle.mc_protocol.specs.Lines.{words_of, Word}
-use Rattle.mc_protocol.specs.declared.lines.Separator.{Separator}
-use Rattle.mc_model.specs.Types.{REPLY_BODY_LIMIT, Request, Reply}
-use Rattle.mc_protocol.specs.declared.reply.Reply.TheVariants as reply
-use Rattle.mc_protocol.specs.Decimals.{MAX_32, MAX_64}
+use Rattle.mc_protocol.specs.{Lines.words_of, Lines.Word, declared.lines.Separator.Separator, Decimals.MAX_32, Decimals.MAX_64}
 use Rattle.mc_model.specs.Words.{SpellsRequest, SpellsReply, request_words, reply_words, join_words}
-use Rattle.mc_model.specs.History.{has_words}
+use Rattle.mc_model.specs.{Types.REPLY_BODY_LIMIT, Types.Request, Types.Reply, History.has_words}
+use Rattle.mc_protocol.specs.declared.reply.Reply.TheVariants as reply
 
 -- ---- what is printed spells the value
 

@@ -1,8 +1,7 @@
 -- The words of requests and replies, as histories and step lists have them.
 use Rattle.std.specs.Prelude.{◌≡◌, ℕ, ◌+◌, ◌-◌, ◌*◌, ◌≤◌, ◌==◌, nat_le, Bool, true, not, ◌&&◌, ◌⊎◌, Option, Some}
 use Rattle.std.specs.Prelude.{None, List, [], ◌∷◌, length, codes, if◌then◌else◌, ◌/◌, ◌%◌, false, decimal}
-use Rattle.std.specs.List.{flat_map, join_with_byte}
-use Rattle.std.specs.Fmt.{digit_glyph}
+use Rattle.std.specs.{List.flat_map, List.join_with_byte, Fmt.digit_glyph}
 use Rattle.mc_model.specs.Types.{Word, Fields, Request, Reply, Class, REPLY_BODY_LIMIT}
 use Rattle.mc_protocol.specs.{Names.is_key, Words.verb_word, Fields.fields_of, Legal.class_of}
 use Rattle.mc_protocol.specs.Decimals.{SpellsNumber, MAX_32, MAX_64}

@@ -1,9 +1,8 @@
 //! A cache acts on a request: it decides what the request does, and does it.
 ghost use Rattle.std.specs.Prelude.{◌≡◌, ℕ, IfOk, OnErr};
-ghost use Rattle.std.specs.FinMap as finite_map;
 ghost use Rattle.std.specs.Option.{option_copied};
-ghost use Rattle.mc_model.specs.Act.{act, effect_of, with_change};
-ghost use Rattle.mc_model.specs.Decide.{answer_at, change_at, effect_at};
+ghost use Rattle.std.specs.FinMap as finite_map;
+ghost use Rattle.mc_model.specs.{Act.act, Act.effect_of, Act.with_change, Decide.answer_at, Decide.change_at, Decide.effect_at};
 
 use crate::{Answer, Cache, Change, Decision, Item, make_version};
 use mc_protocol::{OutOfMemory, Reply, Request};

@@ -1,11 +1,9 @@
 //! The words of bodies, in which a byte that isn't visible, and `%`, is escaped.
 ghost use Rattle.std.specs.Prelude.{◌≡◌, ◌≢◌, ◌++◌, ◌<◌, ℕ, List, false, Some, IfOk, IfErr, OnOk};
-ghost use Rattle.std.specs.Fmt.{digit_glyph};
-ghost use Rattle.std.specs.Option.{option_map};
+ghost use Rattle.std.specs.{Fmt.digit_glyph, Option.option_map};
 ghost use Rattle.mc_model.specs.Words as spec;
-ghost use Rattle.mc_model.specs.WordLaws.{AreBytes};
+ghost use Rattle.mc_model.specs.{WordLaws.AreBytes, Misreadings.IsWithin};
 ghost use Rattle.mc_model.specs.Reading as reading;
-ghost use Rattle.mc_model.specs.Misreadings.{IsWithin};
 
 use crate::{ExpectedWord, WordsFault, WordsKind};
 use mc_protocol::{Bytes, OutOfMemory, REPLY_BODY_LIMIT};

@@ -1,8 +1,7 @@
 //! What a cache holds: a finite map from keys to items.
 ghost use Rattle.std.specs.Prelude.{◌≡◌, ◌≤◌, IfOk, OnOk, OnErr, vec_len};
-ghost use Rattle.std.specs.Vec.{vec_capacity};
+ghost use Rattle.std.specs.{Vec.vec_capacity, Option.option_copied};
 ghost use Rattle.std.specs.FinMap as finite_map;
-ghost use Rattle.std.specs.Option.{option_copied};
 ghost use Rattle.mc_model.specs.Contents.{contents_of};
 
 use mc_protocol::{Bytes, OutOfMemory};

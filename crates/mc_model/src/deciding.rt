@@ -1,8 +1,7 @@
 //! What a request does, by what is known of the item that is there: what is answered, and what becomes of the item.
 ghost use Rattle.std.specs.Prelude.{◌≡◌, ℕ};
 ghost use Rattle.std.specs.Option.{option_copied};
-ghost use Rattle.mc_model.specs.Act.{effect_by};
-ghost use Rattle.mc_model.specs.Decide.{Decides, effect_at, found_of};
+ghost use Rattle.mc_model.specs.{Act.effect_by, Decide.Decides, Decide.effect_at, Decide.found_of};
 
 use crate::{Choice, Item, Numeral, numeral_of};
 use mc_protocol::{Reply, Request, Verb};

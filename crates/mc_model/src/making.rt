@@ -1,8 +1,7 @@
 //! The versions that requests make.
 ghost use Rattle.std.specs.Prelude.{◌≡◌, ◌++◌, IfOk, Some, None};
 ghost use Rattle.std.specs.Option.{option_copied};
-ghost use Rattle.mc_model.specs.Act.{counted_body};
-ghost use Rattle.mc_model.specs.Decide.{change_at, made_by};
+ghost use Rattle.mc_model.specs.{Act.counted_body, Decide.change_at, Decide.made_by};
 
 use crate::{Change, Item};
 use itoa::Buffer;

@@ -2,12 +2,9 @@
 //! that may stand for itself.
 ghost use Rattle.std.specs.Prelude.{◌≡◌, ◌++◌, ◌≤◌, true, map, IfSome, OnOk, OnErr};
 ghost use Rattle.std.specs.List.{concat};
-ghost use Rattle.mc_protocol.specs.Words.{verb_word};
-ghost use Rattle.mc_model.specs.History.{has_words};
-ghost use Rattle.mc_protocol.specs.Decimals.{MAX_32, MAX_64};
+ghost use Rattle.mc_protocol.specs.{Words.verb_word, Decimals.MAX_32, Decimals.MAX_64};
 ghost use Rattle.mc_model.specs.Words.{SpellsRequest, SpellsReply, join_words, request_words, reply_words};
-ghost use Rattle.mc_model.specs.WordLaws.{AreBytes, has_short_body};
-ghost use Rattle.mc_model.specs.Printing.{item_text, number_text};
+ghost use Rattle.mc_model.specs.{History.has_words, WordLaws.AreBytes, WordLaws.has_short_body, Printing.item_text, Printing.number_text};
 
 use crate::body::append_body;
 use crate::words::class_word;

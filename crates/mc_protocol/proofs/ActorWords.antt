@@ -1,9 +1,7 @@
 -- The words of the sections.
 use Rattle.std.proofs.Common.{◌≡◌, ◌==◌, if◌then◌else◌, ◌∷◌, length, get_or, codes, refl, sym, ap, ◌∙◌, arith}
-use Rattle.mc_protocol.specs.declared.actor.Actor.{Actor}
+use Rattle.mc_protocol.specs.{declared.actor.Actor.Actor, Lines.Word, Lines.Words, Words.actor_word}
 use Rattle.mc_protocol.specs.declared.actor.Actor.TheVariants as actor
-use Rattle.mc_protocol.specs.Lines.{Word, Words}
-use Rattle.mc_protocol.specs.Words.{actor_word}
 use Rattle.mc_protocol.proofs.FirstItems.{head_is}
 
 pub length-actor_word : (a : Actor) → length (actor_word a) ≡ 1

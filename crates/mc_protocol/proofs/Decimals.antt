@@ -1,15 +1,12 @@
 -- A word is read as a number exactly where it spells it.
 use Rattle.std.proofs.Common.{◌≡◌, ℕ, ◌==◌, ◌<◌, ◌≤◌, ◌^◌, decimal, arith, nat_le, Bool, true, false}
 use Rattle.std.proofs.Common.{not, ◌&&◌, cond, Result, Ok, Err, length, refl, sym, ap, ◌∙◌}
-use Rattle.std.specs.Str.Parse.{digits_value}
-use Rattle.std.proofs.lemmas.Bool.{leb-true, le-leb, and_parts}
-use Rattle.std.proofs.lemmas.Bool.Decides.{nat_tests}
 use Rattle.std.proofs.lemmas.Fmt.{decimal_nonempty, digits_decimal, digits_value-decimal, length-decimal-le}
-use Rattle.mc_protocol.specs.declared.decimal.DecimalFault.{DecimalFault}
+use Rattle.std.proofs.{lemmas.Bool.leb-true, lemmas.Bool.le-leb, lemmas.Bool.and_parts, lemmas.Bool.Decides.nat_tests}
+use Rattle.std.specs.Str.Parse.{digits_value}
 use Rattle.mc_protocol.specs.declared.decimal.DecimalFault.TheVariants.{NotDigits, TooLarge}
-use Rattle.mc_protocol.specs.declared.limits.TheConstants.{DIGITS_LIMIT}
-use Rattle.mc_protocol.specs.Lines.{Word}
 use Rattle.mc_protocol.specs.Decimals.{SpellsNumber, MAX_64, are_digits, has_digits_alone, decimal_in}
+use Rattle.mc_protocol.specs.{declared.decimal.DecimalFault.DecimalFault, declared.limits.TheConstants.DIGITS_LIMIT, Lines.Word}
 use Rattle.mc_protocol.proofs.Digits.{digits}
 
 not_empty : (n : ℕ) → 0 < n → not (n == 0) ≡ true

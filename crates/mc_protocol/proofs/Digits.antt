@@ -1,13 +1,8 @@
 -- The number that digits stand for.
 use Rattle.std.proofs.Common.{◌≡◌, ℕ, ◌<◌, ◌^◌, true, List, length, Result, Ok, Err, ⊎_elim, arith, rules}
-use Rattle.std.specs.Option.{MatchOption}
-use Rattle.std.specs.Result.{result_ok}
-use Rattle.std.specs.Str.{IsUtf8}
-use Rattle.std.specs.Str.Parse.{digits_value, ParsesUnsigned}
-use Rattle.std.proofs.lemmas.Bool.{cases_lt}
-use Rattle.std.proofs.lemmas.List.{get_or_past}
-use Rattle.std.proofs.lemmas.Str.{IsUtf8-from_ascii}
 use Rattle.std.proofs.lemmas.Str.Parse.{IsNumeralModel, numerals_by_value, digit_at, parse_digits}
+use Rattle.std.proofs.{lemmas.Bool.cases_lt, lemmas.List.get_or_past, lemmas.Str.IsUtf8-from_ascii}
+use Rattle.std.specs.{Option.MatchOption, Result.result_ok, Str.IsUtf8, Str.Parse.digits_value, Str.Parse.ParsesUnsigned}
 use Rattle.mc_protocol.specs.Decimals.{are_digits, MAX_64}
 
 -- the digits are those of std, and they have its value

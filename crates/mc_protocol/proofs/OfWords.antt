@@ -1,13 +1,11 @@
 -- A verb, or a class, is found by its word.
 use Rattle.std.proofs.Common.{◌≡◌, Option, Some, None, refl, sym, ap, ◌∙◌}
-use Rattle.std.specs.Str.{bytes_eq}
 use Rattle.std.proofs.lemmas.Slice.Eq.{bytes_eq-Decides}
-use Rattle.mc_protocol.specs.declared.request.Verb.{Verb}
+use Rattle.std.specs.Str.{bytes_eq}
 use Rattle.mc_protocol.specs.declared.request.Verb.TheVariants.{Set, Add, Replace, Append, Prepend, Cas, Get, Gets, Incr, Decr, Delete, Touch}
-use Rattle.mc_protocol.specs.declared.reply.Class.{Class}
-use Rattle.mc_protocol.specs.declared.reply.Class.TheVariants as class
-use Rattle.mc_protocol.specs.Lines.{Word}
 use Rattle.mc_protocol.specs.Words.{IsOfWord, verb_word, all_verbs, verb_of, class_word, all_classes, class_of_word}
+use Rattle.mc_protocol.specs.{declared.request.Verb.Verb, declared.reply.Class.Class, Lines.Word}
+use Rattle.mc_protocol.specs.declared.reply.Class.TheVariants as class
 use Rattle.mc_protocol.proofs.Found.{find-passes}
 
 -- the verb with a verb's word is that verb

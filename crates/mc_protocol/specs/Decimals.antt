@@ -1,9 +1,8 @@
 -- Decimals, as every text writes its numbers.
 use Rattle.std.specs.Prelude.{◌≡◌, ℕ, ◌≤◌, ◌==◌, nat_le, Bool, true, not, ◌&&◌, Result, Ok, Err, length, if◌then◌else◌}
 use Rattle.std.specs.{List.list_all, Str.Parse.digits_value}
-use Rattle.mc_protocol.specs.Lines.{Word}
-use Rattle.mc_protocol.specs.declared.{decimal.DecimalFault.DecimalFault, limits.TheConstants.DIGITS_LIMIT}
-use Rattle.mc_protocol.specs.declared.decimal.DecimalFault.TheVariants.{NotDigits, TooLarge}
+use Rattle.mc_protocol.specs.{Lines.Word, declared.decimal.DecimalFault.DecimalFault, declared.limits.TheConstants.DIGITS_LIMIT}
+use Rattle.mc_protocol.specs.{declared.decimal.DecimalFault.TheVariants.NotDigits, declared.decimal.DecimalFault.TheVariants.TooLarge}
 
 -- the greatest numbers of 32 and of 64 bits
 abbrev pub MAX_32 : ℕ

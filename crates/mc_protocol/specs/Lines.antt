@@ -1,11 +1,9 @@
 -- How a text falls into lines and words.
 use Rattle.std.specs.Prelude.{ℕ, ◌+◌, ◌==◌, Bool, false, not, ◌||◌, List, [], ◌∷◌, length, map, min, filter, if◌then◌else◌}
-use Rattle.std.specs.List.{list_all, slice_split}
-use Rattle.std.specs.Str.{bytes_eq}
+use Rattle.std.specs.{List.list_all, List.slice_split, Str.bytes_eq}
 use Rattle.bstr.specs.Text.{lines_of, without_terminator}
-use Rattle.mc_protocol.specs.TextLines.{TextLines}
-use Rattle.mc_protocol.specs.declared.lines.Separator.{Separator}
 use Rattle.mc_protocol.specs.declared.lines.Separator.TheVariants.{Space, SpaceOrTab}
+use Rattle.mc_protocol.specs.{TextLines.TextLines, declared.lines.Separator.Separator}
 
 -- a word: its bytes
 abbrev pub Word : Type 0

@@ -1,7 +1,6 @@
 -- Names: of keys, and of whatever else a script declares.
 use Rattle.std.specs.Prelude.{ℕ, ◌==◌, nat_le, Bool, true, not, ◌&&◌, ◌||◌, Option, List, [], ◌∷◌, length}
-use Rattle.std.specs.List.{list_all, list_any, position}
-use Rattle.std.specs.Str.{bytes_eq}
+use Rattle.std.specs.{List.list_all, List.list_any, List.position, Str.bytes_eq}
 use Rattle.mc_protocol.specs.declared.limits.TheConstants.{KEY_BYTES_LIMIT}
 
 -- a lower case letter, a digit or a dash

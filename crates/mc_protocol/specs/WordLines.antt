@@ -1,8 +1,7 @@
 -- A text as the words of its lines.
 use Rattle.std.specs.Prelude.{ℕ, List, map}
 use Rattle.mc_protocol.specs.{LeftWords.LeftWords, TextLines.TextLines}
-use Rattle.mc_protocol.specs.Lines.{words_of, counted, line_count, lines_of_text}
-use Rattle.mc_protocol.specs.declared.lines.Separator.{Separator}
+use Rattle.mc_protocol.specs.{Lines.words_of, Lines.counted, Lines.line_count, Lines.lines_of_text, declared.lines.Separator.Separator}
 
 -- the words of the lines that are left
 abbrev pub left_words : TextLines → LeftWords

@@ -1,12 +1,11 @@
 -- The words of sections, verbs and classes of replies.
 use Rattle.std.specs.Prelude.{◌≡◌, ℕ, Option, Some, None, List, [], ◌∷◌, codes}
 use Rattle.std.specs.{List.find, Str.bytes_eq}
-use Rattle.mc_protocol.specs.Lines.{Word}
-use Rattle.mc_protocol.specs.declared.{actor.Actor.Actor, reply.Class.Class, request.Verb.Verb}
-use Rattle.mc_protocol.specs.declared.actor.Actor.TheVariants as actor
-use Rattle.mc_protocol.specs.declared.reply.Class.TheVariants as class
 use Rattle.mc_protocol.specs.declared.request.Verb.TheVariants.{Set, Add, Replace, Append, Prepend, Cas}
 use Rattle.mc_protocol.specs.declared.request.Verb.TheVariants.{Get, Gets, Incr, Decr, Delete, Touch}
+use Rattle.mc_protocol.specs.{Lines.Word, declared.actor.Actor.Actor, declared.reply.Class.Class, declared.request.Verb.Verb}
+use Rattle.mc_protocol.specs.declared.actor.Actor.TheVariants as actor
+use Rattle.mc_protocol.specs.declared.reply.Class.TheVariants as class
 
 -- the value with this word, or none where no value has it
 abbrev pub IsOfWord : {V : Type 0} → (V → Word) → Word → Option V → Type 0

@@ -1,8 +1,7 @@
 //! The reader of decimals.
 
 ghost use Rattle.std.specs.Prelude.{◌≡◌, ◌<◌, ◌↔◌, ℕ, true, false, Err, IfOk, IfErr, length};
-ghost use Rattle.std.specs.Option.{MatchOption};
-ghost use Rattle.std.specs.Str.Parse.{digits_value};
+ghost use Rattle.std.specs.{Option.MatchOption, Str.Parse.digits_value};
 ghost use Rattle.mc_protocol.specs.Decimals as spec;
 
 use crate::DIGITS_LIMIT;

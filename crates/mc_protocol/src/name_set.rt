@@ -1,8 +1,7 @@
 //! A set of names, which finds one that stood before.
 
 ghost use Rattle.std.specs.Prelude.{◌≡◌, [], ◌∷◌, ◌++◌, OnOk, OnErr};
-ghost use Rattle.std.specs.List.{list_any};
-ghost use Rattle.std.specs.Str.{bytes_eq};
+ghost use Rattle.std.specs.{List.list_any, Str.bytes_eq};
 
 use crate::OutOfMemory;
 use std::alloc::Global;

@@ -1,8 +1,7 @@
 //! Names, and where one of them stands among others.
 
 ghost use Rattle.std.specs.Prelude.{◌≡◌, ◌<◌, ⊤, length, MatchOption};
-ghost use Rattle.std.specs.List.{list_any};
-ghost use Rattle.std.specs.Str.{bytes_eq};
+ghost use Rattle.std.specs.{List.list_any, Str.bytes_eq};
 ghost use Rattle.mc_protocol.specs.Names as spec;
 
 use crate::{Bytes, KEY_BYTES_LIMIT};

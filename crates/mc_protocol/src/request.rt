@@ -1,8 +1,7 @@
 //! Requests.
 
 ghost use Rattle.std.specs.Prelude.{◌≡◌, IfOk};
-ghost use Rattle.mc_protocol.specs.Fields.{fields_of};
-ghost use Rattle.mc_protocol.specs.Words.{IsOfWord, verb_word, verb_of};
+ghost use Rattle.mc_protocol.specs.{Fields.fields_of, Words.IsOfWord, Words.verb_word, Words.verb_of};
 
 use crate::{Bytes, OutOfMemory};
 use std::alloc::Global;

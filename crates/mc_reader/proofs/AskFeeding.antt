@@ -1,18 +1,12 @@
 -- What a reader of requests answers to a piece.
 use Rattle.std.proofs.Common.{◌≡◌, ℕ, ◌-◌, ◌≤◌, Result, Ok, Err, List, [], ◌∷◌, ◌++◌, length, refl, sym, ap, ◌∙◌, subst, arith, append-nil, length-append}
-use Rattle.mc_reader.specs.AskEnds.{AskEnds, IsAskUnfinished}
 use Rattle.mc_reader.specs.AskReading.{Progress, InLine, InBlock, Skipping, Over, HasRead, goes_on, IsAskAnswer, FeedsAsk}
-use Rattle.mc_reader.specs.AskStages.{progress_of, StepsAsk, StepsFrom}
-use Rattle.mc_reader.specs.Asks.{Asking, ask_of}
-use Rattle.mc_reader.specs.declared.ask.Ask.{Ask}
-use Rattle.mc_reader.specs.declared.ask.Asked.TheVariants as asked
-use Rattle.mc_reader.specs.declared.ask.AskFault.{AskFault}
 use Rattle.mc_reader.specs.declared.ask.AskFault.TheVariants.{OutOfMemory, Failed}
-use Rattle.mc_reader.specs.declared.ask_stage.AskStage.{AskStage}
-use Rattle.mc_reader.specs.declared.ask_stage.AskStep.{AskStep}
 use Rattle.mc_reader.specs.declared.ask_stage.AskStep.TheVariants.{More, Done}
-use Rattle.mc_reader.proofs.AskUnfinished.{unfinished_read}
-use Rattle.mc_reader.proofs.Feeding.{used_is}
+use Rattle.mc_reader.specs.{AskEnds.AskEnds, AskEnds.IsAskUnfinished, AskStages.progress_of, AskStages.StepsAsk, AskStages.StepsFrom, Asks.Asking, Asks.ask_of}
+use Rattle.mc_reader.specs.{declared.ask.Ask.Ask, declared.ask.AskFault.AskFault, declared.ask_stage.AskStage.AskStage, declared.ask_stage.AskStep.AskStep}
+use Rattle.mc_reader.specs.declared.ask.Asked.TheVariants as asked
+use Rattle.mc_reader.proofs.{AskUnfinished.unfinished_read, Feeding.used_is}
 
 -- ---- more
 

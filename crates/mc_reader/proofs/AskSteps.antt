@@ -1,25 +1,18 @@
 -- A step of a request, by what a part of it does to a piece.
 use Rattle.std.proofs.Common.{◌≡◌, ℕ, ◌+◌, ◌<◌, ◌≤◌, ◌==◌, false, Result, Ok, Err, List, [], ◌∷◌, ◌++◌, length, take, drop, refl}
 use Rattle.std.proofs.Common.{sym, ap, ◌∙◌, subst, arith, length-take, length-drop, length-append, append_assoc, append-nil}
-use Rattle.std.specs.Prelude.{IfOk}
 use Rattle.std.proofs.lemmas.List.{take-append-drop}
+use Rattle.std.specs.Prelude.{IfOk}
 use Rattle.mc_reader.specs.AskEnds.{request_of, not_cr, not_lf, crlf, ChunkEnds, AskEnds, one_line, with_block, with_skipped}
-use Rattle.mc_reader.specs.AskLines.{Whole, Block, Skips, line_says}
 use Rattle.mc_reader.specs.AskReading.{InBlock, Skipping, HasRead, HasReadBlock}
 use Rattle.mc_reader.specs.AskStages.{IsAskStageAt, StepsTo, StepsAsk, StepsChunk, StepsSkip, StepsFrom, StepsValid}
-use Rattle.mc_reader.specs.Asks.{Asking, One, Refused, ask_of}
-use Rattle.mc_reader.specs.Lines.{CR, LF, IsLine}
-use Rattle.mc_reader.specs.Steps.{EndsAt}
-use Rattle.mc_reader.specs.declared.ask.Ask.TheVariants as ask
-use Rattle.mc_reader.specs.declared.ask.AskFault.{AskFault}
 use Rattle.mc_reader.specs.declared.ask.AskFault.TheVariants.{OutOfMemory, Failed}
-use Rattle.mc_reader.specs.declared.ask.Refuse.{Refuse}
-use Rattle.mc_reader.specs.declared.ask.Refuse.TheVariants.{BadChunk}
-use Rattle.mc_reader.specs.declared.ask_said.StoreLine.{StoreLine}
-use Rattle.mc_reader.specs.declared.ask_stage.AskStage.{AskStage}
+use Rattle.mc_reader.specs.{AskLines.Whole, AskLines.Block, AskLines.Skips, AskLines.line_says, Asks.Asking, Asks.One, Asks.Refused, Asks.ask_of, Lines.CR}
+use Rattle.mc_reader.specs.{Lines.LF, Lines.IsLine, Steps.EndsAt, declared.ask.AskFault.AskFault, declared.ask.Refuse.Refuse}
+use Rattle.mc_reader.specs.{declared.ask.Refuse.TheVariants.BadChunk, declared.ask_said.StoreLine.StoreLine, declared.ask_stage.AskStage.AskStage}
+use Rattle.mc_reader.specs.{declared.ask_stage.AskStep.AskStep, declared.ask_stage.AskStep.TheVariants.More, declared.ask_stage.AskStep.TheVariants.Done}
+use Rattle.mc_reader.specs.declared.ask.Ask.TheVariants as ask
 use Rattle.mc_reader.specs.declared.ask_stage.AskStage.TheVariants as stage
-use Rattle.mc_reader.specs.declared.ask_stage.AskStep.{AskStep}
-use Rattle.mc_reader.specs.declared.ask_stage.AskStep.TheVariants.{More, Done}
 use Rattle.mc_reader.proofs.StepLemmas.{ends_after}
 
 step_parts : (E : List ℕ → Asking → Type 0) (After : AskStage → List ℕ → Type 0) (text front piece : List ℕ)

@@ -4,13 +4,9 @@ use mathlib.Core.Logic.{inl, inr}
 use Rattle.mc_reader.specs.AskEnds.{StoreEnds, not_cr, not_lf, crlf, ChunkEnds, too_long, one_line, with_block, with_skipped, IsAskUnfinished}
 use Rattle.mc_reader.specs.AskLines.{LineSays, Whole, Block, Skips, line_says}
 use Rattle.mc_reader.specs.AskReading.{Progress, InLine, InBlock, Skipping, Over, HasRead, IsBlockFront}
-use Rattle.mc_reader.specs.Asks.{Asking}
-use Rattle.mc_reader.specs.Lines.{CR, LF, IsLine}
-use Rattle.mc_reader.specs.declared.ask.Refuse.{Refuse}
-use Rattle.mc_reader.specs.declared.ask_said.StoreLine.{StoreLine}
-use Rattle.mc_reader.proofs.LineEnds.{one_first_end}
-use Rattle.mc_reader.proofs.Unfinished.{not_ended, not_full}
+use Rattle.mc_reader.specs.{Asks.Asking, Lines.CR, Lines.LF, Lines.IsLine, declared.ask.Refuse.Refuse, declared.ask_said.StoreLine.StoreLine}
 use Rattle.mc_reader.proofs.Unique.{same_front, lined, blocked, not_too_long, not_that_cr}
+use Rattle.mc_reader.proofs.{LineEnds.one_first_end, Unfinished.not_ended, Unfinished.not_full}
 
 -- ---- what a line says is one thing
 

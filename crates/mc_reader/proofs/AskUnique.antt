@@ -1,12 +1,8 @@
 -- A text of a request ends in one way, and where it ends no longer one ends.
 use Rattle.std.proofs.Common.{◌≡◌, ℕ, false, List, [], ◌∷◌, ◌++◌, length, sym, ap, ap₂, ◌∙◌, subst, append_assoc}
 use Rattle.mc_reader.specs.AskEnds.{StoreEnds, not_cr, not_lf, crlf, ChunkEnds, too_long, one_line, with_block, with_skipped}
-use Rattle.mc_reader.specs.AskLaws.{OneAsk}
-use Rattle.mc_reader.specs.AskLines.{LineSays, Whole, Skips, line_says}
-use Rattle.mc_reader.specs.Asks.{Asking, Refused}
-use Rattle.mc_reader.specs.Lines.{CR, LF, has_end}
-use Rattle.mc_reader.specs.declared.ask.Refuse.{Refuse}
-use Rattle.mc_reader.specs.declared.ask_said.StoreLine.{StoreLine}
+use Rattle.mc_reader.specs.{AskLaws.OneAsk, AskLines.LineSays, AskLines.Whole, AskLines.Skips, AskLines.line_says, Asks.Asking, Asks.Refused, Lines.CR}
+use Rattle.mc_reader.specs.{Lines.LF, Lines.has_end, declared.ask.Refuse.Refuse, declared.ask_said.StoreLine.StoreLine}
 use Rattle.mc_reader.proofs.AskUnfinished.{whole_not_block, whole_not_skips, block_not_skips, one_store, one_count}
 use Rattle.mc_reader.proofs.LineEnds.{one_first_end}
 use Rattle.mc_reader.proofs.Unique.{same_front, lined, blocked, not_too_long, not_that_cr, not_that_lf}

@@ -1,12 +1,10 @@
 -- The words of a line, taken one after another.
 use Rattle.std.proofs.Common.{◌≡◌, ℕ, ◌+◌, ◌<◌, ◌==◌, Bool, true, false, not, cond, suc, List, [], ◌∷◌}
 use Rattle.std.proofs.Common.{length, take, drop, refl, sym, ap, ◌∙◌, subst, arith, length-take}
-use Rattle.std.specs.List.{position_or_len, filter}
 use Rattle.std.proofs.lemmas.Bool.{eqb-true}
-use Rattle.mc_reader.specs.Words.{is_space, words_after}
-use Rattle.mc_protocol.specs.Lines.{Word, Words, words_of}
-use Rattle.mc_protocol.specs.declared.lines.Separator.TheVariants.{Space}
-use Rattle.mc_reader.specs.AskWords.{BeginsWord, BeginsSpace}
+use Rattle.std.specs.List.{position_or_len, filter}
+use Rattle.mc_reader.specs.{Words.is_space, Words.words_after, AskWords.BeginsWord, AskWords.BeginsSpace}
+use Rattle.mc_protocol.specs.{Lines.Word, Lines.Words, Lines.words_of, declared.lines.Separator.TheVariants.Space}
 use Rattle.mc_reader.proofs.Searches.{words_cut}
 
 one_more : (n : ℕ) → 1 + n ≡ suc n

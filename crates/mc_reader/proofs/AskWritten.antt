@@ -1,35 +1,21 @@
 -- The text of each request is asked as that request.
 use Rattle.std.proofs.Common.{◌≡◌, ℕ, ◌≤◌, nat_le, Bool, true, false, cond, Option, Some, None, [], ◌∷◌, ◌++◌, length, decimal, refl, ap, ◌∙◌, arith}
-use Rattle.std.specs.Option.{unwrap_or}
-use Rattle.std.specs.Str.Parse.{digits_value}
 use Rattle.std.proofs.lemmas.Bool.{le-leb}
-use Rattle.mc_protocol.specs.Decimals.{MAX_32, MAX_64, has_digits_alone}
-use Rattle.mc_protocol.specs.Fields.{fields_of}
-use Rattle.mc_protocol.specs.Lines.{Word, Words, words_of}
-use Rattle.mc_protocol.specs.Texts.{text_as}
-use Rattle.mc_protocol.specs.Words.{verb_word}
+use Rattle.std.specs.{Option.unwrap_or, Str.Parse.digits_value}
 use Rattle.mc_protocol.specs.declared.lines.Separator.TheVariants.{Space}
-use Rattle.mc_protocol.specs.declared.request.Fields.{Fields}
+use Rattle.mc_protocol.specs.{Decimals.MAX_32, Decimals.MAX_64, Decimals.has_digits_alone, Fields.fields_of, Lines.Word, Lines.Words, Lines.words_of}
+use Rattle.mc_protocol.specs.{Texts.text_as, Words.verb_word, declared.request.Fields.Fields, declared.request.Request.Request, declared.request.Verb.Verb}
 use Rattle.mc_protocol.specs.declared.request.Fields.TheVariants as fields
-use Rattle.mc_protocol.specs.declared.request.Request.{Request}
-use Rattle.mc_protocol.specs.declared.request.Verb.{Verb}
 use Rattle.mc_protocol.specs.declared.request.Verb.TheVariants as verb
-use Rattle.mc_reader.specs.AskEnds.{crlf, AskEnds, one_line, with_block}
-use Rattle.mc_reader.specs.AskLaws.{IsSendable, with_fields, WrittenIsAsked}
 use Rattle.mc_reader.specs.AskLines.{LineSays, Whole, Block, refused, bare, command_of, ending, retrieval, storage_says, storage, swapping}
 use Rattle.mc_reader.specs.AskLines.{bare_says, counting, deletion, touch_says, touch, command_says, words_say, line_says}
-use Rattle.mc_reader.specs.AskWords.{number_in, time_in, is_request_key}
-use Rattle.mc_reader.specs.Asks.{One}
-use Rattle.mc_reader.specs.Lines.{CR, LF, IsLine}
-use Rattle.mc_reader.specs.declared.ask.Refuse.TheVariants.{BadLine}
-use Rattle.mc_reader.specs.declared.ask_said.Command.{Command}
 use Rattle.mc_reader.specs.declared.ask_said.Command.TheVariants.{Retrieves, Stores, Swaps, Counts, Deletes, Touches}
-use Rattle.mc_reader.specs.declared.ask_said.StoreLine.{StoreLine}
 use Rattle.mc_reader.specs.declared.limits.TheConstants.{REQUEST_BODY_LIMIT, ANNOUNCED_LIMIT}
-use Rattle.mc_reader.proofs.Fits.{both}
-use Rattle.mc_reader.proofs.TextLemmas.{text_is}
-use Rattle.mc_reader.proofs.WrittenHits.{alone, value, within}
+use Rattle.mc_reader.specs.{AskEnds.crlf, AskEnds.AskEnds, AskEnds.one_line, AskEnds.with_block, AskLaws.IsSendable, AskLaws.with_fields}
+use Rattle.mc_reader.specs.{AskLaws.WrittenIsAsked, AskWords.number_in, AskWords.time_in, AskWords.is_request_key, Asks.One, Lines.CR, Lines.LF, Lines.IsLine}
+use Rattle.mc_reader.specs.{declared.ask.Refuse.TheVariants.BadLine, declared.ask_said.Command.Command, declared.ask_said.StoreLine.StoreLine}
 use Rattle.mc_reader.proofs.AskWrittenLines.{line_text, text_split, IsOneWord, zero, words_after_word, words_written, is_line}
+use Rattle.mc_reader.proofs.{Fits.both, TextLemmas.text_is, WrittenHits.alone, WrittenHits.value, WrittenHits.within}
 
 -- ---- what the words say
 

@@ -1,26 +1,15 @@
 -- The lines of requests that are rendered, and their words.
 use Rattle.std.proofs.Common.{◌≡◌, ℕ, ◌+◌, ◌<◌, ◌≤◌, ◌==◌, nat_le, true, false, List, [], ◌∷◌, ◌++◌, length, codes}
 use Rattle.std.proofs.Common.{decimal, refl, sym, ap, ◌∙◌, subst, arith, append_assoc, append-nil, length-append}
+use Rattle.std.proofs.{lemmas.Bool.and_parts, lemmas.Bool.eqb-true, lemmas.Bool.leb-true, lemmas.Fmt.decimal_nonempty, lemmas.List.Folds.concat-append}
 use Rattle.std.specs.List.{concat, filter, list_all, list_any}
-use Rattle.std.proofs.lemmas.Bool.{and_parts, eqb-true, leb-true}
-use Rattle.std.proofs.lemmas.Fmt.{decimal_nonempty}
-use Rattle.std.proofs.lemmas.List.Folds.{concat-append}
-use Rattle.mc_protocol.specs.Decimals.{MAX_64}
-use Rattle.mc_protocol.specs.Lines.{Word, Words, words_of}
-use Rattle.mc_protocol.specs.Texts.{line_end, after_key, text_as}
-use Rattle.mc_protocol.specs.declared.lines.Separator.TheVariants.{Space}
-use Rattle.mc_protocol.specs.declared.request.Fields.{Fields}
+use Rattle.mc_protocol.specs.{Decimals.MAX_64, Lines.Word, Lines.Words, Lines.words_of, Texts.line_end, Texts.after_key, Texts.text_as}
+use Rattle.mc_protocol.specs.{declared.lines.Separator.TheVariants.Space, declared.request.Fields.Fields, declared.request.Request.Request}
 use Rattle.mc_protocol.specs.declared.request.Fields.TheVariants as fields
-use Rattle.mc_protocol.specs.declared.request.Request.{Request}
-use Rattle.mc_reader.specs.AskLaws.{IsSendable}
-use Rattle.mc_reader.specs.AskWords.{is_key_byte}
-use Rattle.mc_reader.specs.Lines.{CR, LF, has_end, IsLine}
-use Rattle.mc_reader.specs.Words.{is_space}
 use Rattle.mc_reader.specs.declared.limits.TheConstants.{REQUEST_KEY_LIMIT}
-use Rattle.mc_reader.proofs.AskWordCuts.{is_some_word, positive, kept}
-use Rattle.mc_reader.proofs.Blocks.{not_true}
-use Rattle.mc_reader.proofs.Gathers.{neither_has, none_joined}
+use Rattle.mc_reader.specs.{AskLaws.IsSendable, AskWords.is_key_byte, Lines.CR, Lines.LF, Lines.has_end, Lines.IsLine, Words.is_space}
 use Rattle.mc_reader.proofs.WrittenHits.{below, short, next, last, no_space, no_end}
+use Rattle.mc_reader.proofs.{AskWordCuts.is_some_word, AskWordCuts.positive, AskWordCuts.kept, Blocks.not_true, Gathers.neither_has, Gathers.none_joined}
 
 -- ---- the pieces of a text
 

@@ -3,13 +3,10 @@ use Rattle.std.proofs.Common.{◌≡◌, ℕ, ◌+◌, ◌==◌, Bool, true, fal
 use Rattle.std.proofs.Common.{◌∷◌, ◌++◌, length, take, drop, refl, sym, ap, ◌∙◌, append_assoc}
 use Rattle.std.proofs.lemmas.Bool.{eqb-true}
 use Rattle.mc_protocol.specs.declared.reply.Reply.{Reply}
-use Rattle.mc_reader.specs.Gathered.{IsFirstEnd, IsGathered, GrowsTooLong}
 use Rattle.mc_reader.specs.Lines.{CR, LF, text_of, end_says, end_fault_of_text, outcome_after}
 use Rattle.mc_reader.specs.Replies.{Outcome, hit_of, LastLineEnds, long_last, last_line, not_cr, not_lf, after_crlf, BlockEnds}
-use Rattle.mc_reader.specs.Steps.{EndsAt, EndsWithin}
-use Rattle.mc_reader.specs.declared.fault.ReadFault.{ReadFault}
-use Rattle.mc_reader.specs.declared.fault.ReadFault.TheVariants.{LineTooLong, DataNotEnded}
-use Rattle.mc_reader.specs.declared.said.HitLine.{HitLine}
+use Rattle.mc_reader.specs.{Gathered.IsFirstEnd, Gathered.IsGathered, Gathered.GrowsTooLong, Steps.EndsAt, Steps.EndsWithin, declared.fault.ReadFault.ReadFault}
+use Rattle.mc_reader.specs.{declared.fault.ReadFault.TheVariants.LineTooLong, declared.fault.ReadFault.TheVariants.DataNotEnded, declared.said.HitLine.HitLine}
 
 -- a byte after the body that isn't CR
 pub stray_cr : (hit : HitLine) (body piece rest : List ℕ) (byte : ℕ) → length body ≡ hit.body_len → (byte == CR) ≡ false

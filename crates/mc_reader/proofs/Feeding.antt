@@ -2,21 +2,13 @@
 use Rattle.std.proofs.Common.{◌≡◌, ℕ, ◌-◌, Option, Some, None, Result, Ok, Err, List, ◌++◌, length, take}
 use Rattle.std.proofs.Common.{refl, sym, ap, ◌∙◌, subst, arith, append_assoc, length-append}
 use Rattle.std.proofs.lemmas.List.{take_at}
-use Rattle.mc_protocol.specs.Lines.{Word}
-use Rattle.mc_protocol.specs.declared.reply.Reply.{Reply}
-use Rattle.mc_protocol.specs.declared.request.Verb.{Verb}
-use Rattle.mc_reader.specs.Reading.{IsAnswer, IsAnswerAfter}
-use Rattle.mc_reader.specs.Replies.{Ends, HasFailed}
-use Rattle.mc_reader.specs.Stages.{IsStageAt, IsStepFrom, stage_fed}
-use Rattle.mc_reader.specs.Steps.{EndsAt, EndsWithin, IsStep}
-use Rattle.mc_reader.specs.declared.fault.ReadFault.{ReadFault}
+use Rattle.mc_protocol.specs.{Lines.Word, declared.reply.Reply.Reply, declared.request.Verb.Verb}
 use Rattle.mc_reader.specs.declared.fault.ReadFault.TheVariants.{OutOfMemory, Failed}
+use Rattle.mc_reader.specs.{Reading.IsAnswer, Reading.IsAnswerAfter, Replies.Ends, Replies.HasFailed, Stages.IsStageAt, Stages.IsStepFrom, Stages.stage_fed}
+use Rattle.mc_reader.specs.{Steps.EndsAt, Steps.EndsWithin, Steps.IsStep, declared.fault.ReadFault.ReadFault, declared.stage.Stage.Stage}
+use Rattle.mc_reader.specs.{declared.step.Step.Step, declared.step.Step.TheVariants.More, declared.step.Step.TheVariants.Done}
 use Rattle.mc_reader.specs.declared.reader.Fed.TheVariants as fed
-use Rattle.mc_reader.specs.declared.stage.Stage.{Stage}
-use Rattle.mc_reader.specs.declared.step.Step.{Step}
-use Rattle.mc_reader.specs.declared.step.Step.TheVariants.{More, Done}
-use Rattle.mc_reader.proofs.Fits.{spelled_fits}
-use Rattle.mc_reader.proofs.Unfinished.{unfinished_fed}
+use Rattle.mc_reader.proofs.{Fits.spelled_fits, Unfinished.unfinished_fed}
 
 pub answers_more : (verb : Verb) (key : Word) (before : Option (List ℕ)) (piece : List ℕ) (s : Stage)
     → IsStepFrom verb key before piece (Ok (More s)) → IsAnswerAfter verb key before piece (Ok fed.More) (stage_fed s)

@@ -1,12 +1,8 @@
 -- Steps in the first line of a reply.
 use Rattle.std.proofs.Common.{◌≡◌, ℕ, ◌+◌, Err, List, [], ◌∷◌, ◌++◌, length, take, drop, refl, sym, append_assoc}
-use Rattle.mc_protocol.specs.Lines.{Word}
-use Rattle.mc_protocol.specs.declared.request.Verb.{Verb}
-use Rattle.mc_reader.specs.Gathered.{IsGathered, GrowsTooLong}
-use Rattle.mc_reader.specs.Lines.{LF, line_says}
-use Rattle.mc_reader.specs.Replies.{Outcome, said_whole, Ends, too_long, one_line}
-use Rattle.mc_reader.specs.Steps.{EndsAt, EndsWithin}
-use Rattle.mc_reader.specs.declared.fault.ReadFault.TheVariants.{LineTooLong}
+use Rattle.mc_protocol.specs.{Lines.Word, declared.request.Verb.Verb}
+use Rattle.mc_reader.specs.{Gathered.IsGathered, Gathered.GrowsTooLong, Lines.LF, Lines.line_says, Replies.Outcome, Replies.said_whole, Replies.Ends}
+use Rattle.mc_reader.specs.{Replies.too_long, Replies.one_line, Steps.EndsAt, Steps.EndsWithin, declared.fault.ReadFault.TheVariants.LineTooLong}
 use Rattle.mc_reader.proofs.Blocks.{line_in}
 
 pub first_too_long : (verb : Verb) (key : Word) (start piece : List ℕ) → GrowsTooLong start piece

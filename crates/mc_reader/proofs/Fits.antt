@@ -2,31 +2,21 @@
 use Rattle.std.proofs.Common.{◌≡◌, ℕ, ◌≤◌, nat_le, Bool, true, false, ◌&&◌, ◌||◌, not, cond, is_some, Option, Some}
 use Rattle.std.proofs.Common.{None, Result, Ok, Err, List, [], ◌∷◌, length, drop, codes, refl, ap, ◌∙◌, subst}
 use Rattle.std.proofs.lemmas.Bool.{leb-true, le-leb, and_parts}
-use Rattle.std.specs.Option.{option_map}
-use Rattle.std.specs.Str.{bytes_eq}
-use Rattle.std.specs.Str.Parse.{digits_value}
-use Rattle.mc_protocol.specs.Decimals.{MAX_32, MAX_64, has_digits_alone}
+use Rattle.std.specs.{Option.option_map, Str.bytes_eq, Str.Parse.digits_value}
 use Rattle.mc_protocol.specs.Legal.{class_of, is_legal, shows_number, same, suits, is_fit_for}
-use Rattle.mc_protocol.specs.Lines.{Word, Words}
-use Rattle.mc_protocol.specs.declared.limits.TheConstants.{REPLY_BODY_LIMIT}
+use Rattle.mc_protocol.specs.{Decimals.MAX_32, Decimals.MAX_64, Decimals.has_digits_alone, Lines.Word, Lines.Words}
+use Rattle.mc_protocol.specs.{declared.limits.TheConstants.REPLY_BODY_LIMIT, declared.reply.Reply.Reply, declared.request.Verb.Verb}
 use Rattle.mc_protocol.specs.declared.reply.Class.TheVariants as class
-use Rattle.mc_protocol.specs.declared.reply.Reply.{Reply}
 use Rattle.mc_protocol.specs.declared.reply.Reply.TheVariants as reply
-use Rattle.mc_protocol.specs.declared.request.Verb.{Verb}
-use Rattle.mc_reader.specs.Laws.{SpelledRepliesFit}
 use Rattle.mc_reader.specs.Lines.{text_of, line_says, says_of_text, end_fault_of_text, outcome_after}
 use Rattle.mc_reader.specs.Replies.{hit_of, LastLineEnds, long_last, last_line, BodyEnds, not_cr, not_lf, after_crlf, too_long, one_line, with_block}
 use Rattle.mc_reader.specs.Words.{reply_of_word, error_of, error_says, number_says, item_says, hit_says, others_say}
 use Rattle.mc_reader.specs.Words.{text_says, says_after_word, says_after_words, words_of, first_word, are_spaces}
-use Rattle.mc_reader.specs.Words.{are_item_words, is_too_large, end_fault, end_fault_after}
-use Rattle.mc_reader.specs.declared.fault.ErrorKind.{ErrorKind}
-use Rattle.mc_reader.specs.declared.fault.ErrorKind.TheVariants.{Error, Client, Server}
-use Rattle.mc_reader.specs.declared.fault.ReadFault.{ReadFault}
 use Rattle.mc_reader.specs.declared.fault.ReadFault.TheVariants.{NotAReply, WrongKey, NumberTooLarge, DataTooLong, ErrorLine, OutOfMemory, Failed}
-use Rattle.mc_reader.specs.declared.limits.TheConstants.{NUMBER_SPACES_LIMIT}
-use Rattle.mc_reader.specs.declared.said.HitLine.{HitLine}
-use Rattle.mc_reader.specs.declared.said.Said.{Said}
-use Rattle.mc_reader.specs.declared.said.Said.TheVariants.{Whole, Hit}
+use Rattle.mc_reader.specs.{Laws.SpelledRepliesFit, Words.are_item_words, Words.is_too_large, Words.end_fault, Words.end_fault_after}
+use Rattle.mc_reader.specs.{declared.fault.ErrorKind.ErrorKind, declared.fault.ErrorKind.TheVariants.Error, declared.fault.ErrorKind.TheVariants.Client}
+use Rattle.mc_reader.specs.{declared.fault.ErrorKind.TheVariants.Server, declared.fault.ReadFault.ReadFault, declared.limits.TheConstants.NUMBER_SPACES_LIMIT}
+use Rattle.mc_reader.specs.{declared.said.HitLine.HitLine, declared.said.Said.Said, declared.said.Said.TheVariants.Whole, declared.said.Said.TheVariants.Hit}
 
 -- what a line may say to the verb: a reply that fits, or a hit that does with any body of its length
 abbrev SaidFits : Verb → Said → Type 0

@@ -3,10 +3,8 @@ use Rattle.std.proofs.Common.{◌≡◌, ℕ, ◌-◌, ◌<◌, ◌≤◌, ◌||
 use Rattle.std.proofs.Common.{take, drop, refl, ap, subst, ◌∙◌, arith, length-append, length-take}
 use Rattle.std.proofs.lemmas.List.{take-append-drop}
 use Rattle.mc_reader.specs.Gathered.{IsFirstEnd, IsLineEnd, GrowsTooLong, Gathers, joined, gathered}
-use Rattle.mc_reader.specs.Lines.{has_end, IsLine}
-use Rattle.mc_reader.specs.declared.fault.ReadFault.{ReadFault}
 use Rattle.mc_reader.specs.declared.fault.ReadFault.TheVariants.{LineTooLong}
-use Rattle.mc_reader.specs.declared.limits.TheConstants.{LINE_LIMIT}
+use Rattle.mc_reader.specs.{Lines.has_end, Lines.IsLine, declared.fault.ReadFault.ReadFault, declared.limits.TheConstants.LINE_LIMIT}
 use Rattle.mc_reader.proofs.LineEnds.{has_end-append}
 
 pub neither_has : (a b : Bool) → a ≡ false → b ≡ false → (a || b) ≡ false

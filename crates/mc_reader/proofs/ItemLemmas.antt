@@ -1,14 +1,9 @@
 -- Lines that announce a hit, and those that don't.
 use Rattle.std.proofs.Common.{◌≡◌, Bool, true, false, ◌&&◌, not, cond, is_some, Option, Some, None, Err, [], ◌∷◌, codes, refl, sym, ap, ◌∙◌}
 use mathlib.Core.Bool.{beq}
-use Rattle.std.specs.Borrow.{Bor}
-use Rattle.std.specs.Str.{bytes_eq}
-use Rattle.mc_protocol.specs.Legal.{shows_number}
-use Rattle.mc_protocol.specs.Lines.{Word, Words}
-use Rattle.mc_protocol.specs.declared.request.Verb.{Verb}
-use Rattle.mc_reader.specs.Items.{IsNoItem, word_list, shown}
-use Rattle.mc_reader.specs.Words.{hit_says, item_says}
-use Rattle.mc_reader.specs.declared.fault.ReadFault.TheVariants.{NotAReply}
+use Rattle.std.specs.{Borrow.Bor, Str.bytes_eq}
+use Rattle.mc_protocol.specs.{Legal.shows_number, Lines.Word, Lines.Words, declared.request.Verb.Verb}
+use Rattle.mc_reader.specs.{Items.IsNoItem, Items.word_list, Items.shown, Words.hit_says, Words.item_says, declared.fault.ReadFault.TheVariants.NotAReply}
 use Rattle.mc_reader.proofs.Fits.{both}
 
 -- ---- fewer words than four, or more than five

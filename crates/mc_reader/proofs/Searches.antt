@@ -1,16 +1,11 @@
 -- What a search for a byte finds.
 use Rattle.std.proofs.Common.{◌≡◌, ℕ, ◌+◌, ◌<◌, ◌==◌, Bool, true, false, not, cond, Option, Some, None, List, [], ◌∷◌, ◌++◌}
 use Rattle.std.proofs.Common.{length, take, drop, get_or, suc, refl, sym, ap, ◌∙◌, subst, arith, length-take, get_or-take}
-use Rattle.std.specs.List.{position_or_len, onto_first}
-use Rattle.std.specs.Option.{unwrap_or}
-use Rattle.std.proofs.lemmas.Bool.{eqb-true}
 use Rattle.std.proofs.lemmas.List.{take-append-drop, take-take, drop_more, get_or_default}
-use Rattle.std.proofs.lemmas.List.Folds.{list_any_none}
-use Rattle.std.proofs.lemmas.List.Sums.{position_or_len_is}
+use Rattle.std.proofs.{lemmas.Bool.eqb-true, lemmas.List.Folds.list_any_none, lemmas.List.Sums.position_or_len_is}
+use Rattle.std.specs.{List.position_or_len, List.onto_first, Option.unwrap_or}
 use Rattle.memchr.specs.Find.{IsFirstByte, is_byte}
-use Rattle.mc_reader.specs.Gathered.{IsFirstEnd}
-use Rattle.mc_reader.specs.Lines.{LF, has_end}
-use Rattle.mc_reader.specs.Words.{is_space, words_of, first_word, words_after}
+use Rattle.mc_reader.specs.{Gathered.IsFirstEnd, Lines.LF, Lines.has_end, Words.is_space, Words.words_of, Words.first_word, Words.words_after}
 
 not_true : (b : Bool) → (b ≡ true → ⊥) → b ≡ false
 not_true true h = absurd (h refl)

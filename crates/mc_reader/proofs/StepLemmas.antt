@@ -1,28 +1,17 @@
 -- A step of a part of a piece is one of the whole.
 use Rattle.std.proofs.Common.{◌≡◌, ℕ, ◌+◌, Some, Result, Ok, Err, List, [], ◌∷◌, ◌++◌, length, take, drop, refl, sym, ap, ◌∙◌, subst, append_assoc, Vec}
 use Rattle.std.specs.declared.alloc.Global.{Global}
-use Rattle.mc_protocol.specs.Lines.{Word}
-use Rattle.mc_protocol.specs.declared.reply.Reply.{Reply}
-use Rattle.mc_protocol.specs.declared.request.Verb.{Verb}
-use Rattle.mc_reader.specs.Block.{IsBlockOf, block_read}
-use Rattle.mc_reader.specs.Gathered.{IsGathered, Gathers}
+use Rattle.mc_protocol.specs.{Lines.Word, declared.reply.Reply.Reply, declared.request.Verb.Verb}
 use Rattle.mc_reader.specs.Lines.{CR, LF, IsLine, line_says, end_says, end_fault_of_text, text_of}
-use Rattle.mc_reader.specs.Replies.{Outcome, hit_of, BlockEnds, Ends, with_block}
 use Rattle.mc_reader.specs.Stages.{IsStageAt, IsStage, IsStepFrom, stage_fed, after_block}
-use Rattle.mc_reader.specs.Steps.{EndsAt, EndsWithin, IsStep}
-use Rattle.mc_reader.specs.declared.block.Block.{Block}
-use Rattle.mc_reader.specs.declared.fault.ReadFault.{ReadFault}
 use Rattle.mc_reader.specs.declared.fault.ReadFault.TheVariants.{LineTooLong, OutOfMemory, Failed}
-use Rattle.mc_reader.specs.declared.said.HitLine.{HitLine}
-use Rattle.mc_reader.specs.declared.said.Said.{Said}
-use Rattle.mc_reader.specs.declared.said.Said.TheVariants.{Hit}
-use Rattle.mc_reader.specs.declared.stage.Stage.{Stage}
+use Rattle.mc_reader.specs.{Block.IsBlockOf, Block.block_read, Gathered.IsGathered, Gathered.Gathers, Replies.Outcome, Replies.hit_of, Replies.BlockEnds}
+use Rattle.mc_reader.specs.{Replies.Ends, Replies.with_block, Steps.EndsAt, Steps.EndsWithin, Steps.IsStep, declared.block.Block.Block}
+use Rattle.mc_reader.specs.{declared.fault.ReadFault.ReadFault, declared.said.HitLine.HitLine, declared.said.Said.Said, declared.said.Said.TheVariants.Hit}
+use Rattle.mc_reader.specs.{declared.stage.Stage.Stage, declared.step.Step.Step, declared.step.Step.TheVariants.More, declared.step.Step.TheVariants.Done}
 use Rattle.mc_reader.specs.declared.stage.Stage.TheVariants as stage
-use Rattle.mc_reader.specs.declared.step.Step.{Step}
-use Rattle.mc_reader.specs.declared.step.Step.TheVariants.{More, Done}
 use Rattle.mc_reader.proofs.Blocks.{line_in, end_fails, last_ends, last_too_long}
-use Rattle.mc_reader.proofs.FirstLines.{first_ends, first_too_long}
-use Rattle.mc_reader.proofs.Fits.{IsOfLine, line_fault, end_line_fault}
+use Rattle.mc_reader.proofs.{FirstLines.first_ends, FirstLines.first_too_long, Fits.IsOfLine, Fits.line_fault, Fits.end_line_fault}
 
 -- a piece of which a front was read before
 pub ends_after : {O : Type 0} (E : List ℕ → O → Type 0) (text front piece : List ℕ) (outcome : O) (unread : ℕ)

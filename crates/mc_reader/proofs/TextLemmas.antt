@@ -1,9 +1,8 @@
 -- The text of a line.
 use Rattle.std.proofs.Common.{◌≡◌, ℕ, ◌+◌, ◌-◌, ◌≤◌, ◌==◌, Bool, true, false, cond, Some, None, List, [], ◌∷◌}
 use Rattle.std.proofs.Common.{◌++◌, length, take, drop, get_or, refl, sym, ap, ◌∙◌, arith, length-drop}
+use Rattle.std.proofs.{lemmas.Bool.eqb-true, lemmas.List.take-append-drop, lemmas.List.drop_more}
 use Rattle.std.specs.Option.{option_map}
-use Rattle.std.proofs.lemmas.Bool.{eqb-true}
-use Rattle.std.proofs.lemmas.List.{take-append-drop, drop_more}
 use Rattle.mc_reader.specs.Lines.{CR, text_of}
 
 either_text : (b : Bool) (x : ℕ) (text : List ℕ) → option_map (λ t. x ∷ t) (cond b (Some text) None) ≡ cond b (Some (x ∷ text)) None

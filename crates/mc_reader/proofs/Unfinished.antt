@@ -1,20 +1,13 @@
 -- Texts of which no prefix ends.
 use Rattle.std.proofs.Common.{◌≡◌, ℕ, ◌≤◌, ◌==◌, Bool, true, false, ◌||◌, Some, Ok, List, [], ◌∷◌, ◌++◌, length}
 use Rattle.std.proofs.Common.{refl, sym, ap, ◌∙◌, subst, arith, length-append, append_assoc, append-nil}
-use Rattle.mc_protocol.specs.Lines.{Word}
-use Rattle.mc_protocol.specs.declared.reply.Reply.{Reply}
-use Rattle.mc_protocol.specs.declared.request.Verb.{Verb}
-use Rattle.mc_reader.specs.Block.{IsBlock, IsEnding, block_read, ending_read}
+use Rattle.mc_protocol.specs.{Lines.Word, declared.reply.Reply.Reply, declared.request.Verb.Verb}
 use Rattle.mc_reader.specs.Lines.{CR, LF, has_end, IsLine, IsTooLong, line_says}
 use Rattle.mc_reader.specs.Replies.{Outcome, hit_of, LastLineEnds, long_last, last_line, BodyEnds, not_cr, not_lf}
 use Rattle.mc_reader.specs.Replies.{after_crlf, BlockEnds, Ends, too_long, one_line, with_block, IsUnfinished}
-use Rattle.mc_reader.specs.Stages.{IsStage, stage_fed}
-use Rattle.mc_reader.specs.declared.block.Block.{Block}
-use Rattle.mc_reader.specs.declared.block.Ending.{Ending}
+use Rattle.mc_reader.specs.{Block.IsBlock, Block.IsEnding, Block.block_read, Block.ending_read, Stages.IsStage, Stages.stage_fed, declared.block.Block.Block}
+use Rattle.mc_reader.specs.{declared.block.Ending.Ending, declared.said.HitLine.HitLine, declared.said.Said.TheVariants.Hit, declared.stage.Stage.Stage}
 use Rattle.mc_reader.specs.declared.block.Ending.TheVariants as ending
-use Rattle.mc_reader.specs.declared.said.HitLine.{HitLine}
-use Rattle.mc_reader.specs.declared.said.Said.TheVariants.{Hit}
-use Rattle.mc_reader.specs.declared.stage.Stage.{Stage}
 use Rattle.mc_reader.specs.declared.stage.Stage.TheVariants as stage
 use Rattle.mc_reader.proofs.LineEnds.{one_first_end}
 use Rattle.mc_reader.proofs.Unique.{same_front, lined, blocked, not_too_long, not_that_cr, not_that_lf, not_announced, one_hit}

@@ -1,16 +1,10 @@
 -- A text ends in one way, and where it ends no longer one ends.
 use Rattle.std.proofs.Common.{◌≡◌, ℕ, ◌==◌, false, Result, Ok, Err, List, [], ◌∷◌, ◌++◌, length, refl, sym, ap, ap₂, ◌∙◌, subst, arith, append_assoc}
-use Rattle.mc_protocol.specs.Lines.{Word}
-use Rattle.mc_protocol.specs.declared.reply.Reply.{Reply}
-use Rattle.mc_protocol.specs.declared.request.Verb.{Verb}
-use Rattle.mc_reader.specs.Laws.{OneReply}
-use Rattle.mc_reader.specs.Lines.{CR, LF, IsLine, IsTooLong, line_says, end_says}
+use Rattle.mc_protocol.specs.{Lines.Word, declared.reply.Reply.Reply, declared.request.Verb.Verb}
 use Rattle.mc_reader.specs.Replies.{Outcome, said_whole, hit_of, LastLineEnds, long_last, last_line, BodyEnds, not_cr}
 use Rattle.mc_reader.specs.Replies.{not_lf, after_crlf, BlockEnds, Ends, too_long, one_line, with_block}
-use Rattle.mc_reader.specs.declared.fault.ReadFault.{ReadFault}
-use Rattle.mc_reader.specs.declared.said.HitLine.{HitLine}
-use Rattle.mc_reader.specs.declared.said.Said.{Said}
-use Rattle.mc_reader.specs.declared.said.Said.TheVariants.{Hit}
+use Rattle.mc_reader.specs.{Laws.OneReply, Lines.CR, Lines.LF, Lines.IsLine, Lines.IsTooLong, Lines.line_says, Lines.end_says}
+use Rattle.mc_reader.specs.{declared.fault.ReadFault.ReadFault, declared.said.HitLine.HitLine, declared.said.Said.Said, declared.said.Said.TheVariants.Hit}
 use Rattle.mc_reader.proofs.LineEnds.{one_first_end, ends_before}
 
 -- fronts of one length of the same bytes are equal, and so is what follows them

@@ -2,40 +2,24 @@
 use Rattle.std.proofs.Common.{◌≡◌, ℕ, ◌<◌, ◌≤◌, ◌^◌, ◌==◌, nat_le, Bool, true, false, ◌&&◌, ◌||◌, not, cond}
 use Rattle.std.proofs.Common.{is_some, Option, Some, None, Ok, Err, List, [], ◌∷◌, ◌++◌, length, get_or, codes}
 use Rattle.std.proofs.Common.{decimal, refl, ap, ◌∙◌, arith, append_assoc, append-nil, length-append}
-use Rattle.std.specs.List.{All, list_any}
-use Rattle.std.specs.Option.{option_map}
-use Rattle.std.specs.Str.{bytes_eq}
-use Rattle.std.specs.Str.Parse.{digits_value}
-use Rattle.std.proofs.lemmas.Bool.{and_parts, le-leb, leb-true}
 use Rattle.std.proofs.lemmas.Fmt.{decimal_nonempty, digits_decimal, digits_value-decimal, length-decimal-le}
-use Rattle.std.proofs.lemmas.List.Folds.{list_any_at}
 use Rattle.std.proofs.lemmas.List.Splits.{slice_split_none, slice_split_at}
-use Rattle.std.proofs.lemmas.Slice.Eq.{bytes_eq-Decides}
+use Rattle.std.proofs.{lemmas.Bool.and_parts, lemmas.Bool.le-leb, lemmas.Bool.leb-true, lemmas.List.Folds.list_any_at, lemmas.Slice.Eq.bytes_eq-Decides}
+use Rattle.std.specs.{List.All, List.list_any, Option.option_map, Str.bytes_eq, Str.Parse.digits_value}
 use Rattle.mc_protocol.proofs.Digits.{digits}
 use Rattle.mc_protocol.specs.Decimals.{MAX_32, MAX_64, has_digits_alone, are_digits}
 use Rattle.mc_protocol.specs.Legal.{is_legal, shows_number, same, suits, is_fit_for}
-use Rattle.mc_protocol.specs.Lines.{Word}
-use Rattle.mc_protocol.specs.Texts.{reply_text}
-use Rattle.mc_protocol.specs.declared.limits.TheConstants.{REPLY_BODY_LIMIT}
+use Rattle.mc_protocol.specs.{Lines.Word, Texts.reply_text, declared.limits.TheConstants.REPLY_BODY_LIMIT, declared.request.Verb.Verb}
 use Rattle.mc_protocol.specs.declared.reply.Class.TheVariants as class
 use Rattle.mc_protocol.specs.declared.reply.Reply.TheVariants as reply
-use Rattle.mc_protocol.specs.declared.request.Verb.{Verb}
 use Rattle.mc_protocol.specs.declared.request.Verb.TheVariants as verbs
-use Rattle.mc_reader.specs.Items.{word_list}
-use Rattle.mc_reader.specs.Laws.{IsKeyText}
-use Rattle.mc_reader.specs.Lines.{CR, LF, has_end, IsLine, line_says, says_of_text}
-use Rattle.mc_reader.specs.Replies.{BlockEnds, after_crlf, last_line, with_block, Spells}
-use Rattle.mc_reader.specs.Words.{is_space, words_of, reply_of_word, error_of, hit_says, item_says, others_say}
-use Rattle.mc_reader.specs.Words.{number_says, are_item_words, is_cas_word, is_too_large, end_fault}
 use Rattle.mc_reader.specs.declared.fault.ReadFault.TheVariants.{NotAReply, WrongKey, NumberTooLarge, DataTooLong}
-use Rattle.mc_reader.specs.declared.limits.TheConstants.{LINE_LIMIT}
-use Rattle.mc_reader.specs.declared.said.Said.TheVariants.{Hit}
-use Rattle.mc_reader.proofs.Blocks.{not_true}
-use Rattle.mc_reader.proofs.Fits.{both}
-use Rattle.mc_reader.proofs.Gathers.{neither_has, none_joined}
-use Rattle.mc_reader.proofs.ItemLemmas.{hit_is}
+use Rattle.mc_reader.specs.{Items.word_list, Laws.IsKeyText, Lines.CR, Lines.LF, Lines.has_end, Lines.IsLine, Lines.line_says, Lines.says_of_text}
+use Rattle.mc_reader.specs.{Replies.BlockEnds, Replies.after_crlf, Replies.last_line, Replies.with_block, Replies.Spells, Words.is_space, Words.words_of}
+use Rattle.mc_reader.specs.{Words.reply_of_word, Words.error_of, Words.hit_says, Words.item_says, Words.others_say, Words.number_says, Words.are_item_words}
+use Rattle.mc_reader.specs.{Words.is_cas_word, Words.is_too_large, Words.end_fault, declared.limits.TheConstants.LINE_LIMIT, declared.said.Said.TheVariants.Hit}
 use Rattle.mc_reader.proofs.WrittenLines.{other_text, none_of_digits, some_length}
-use Rattle.mc_reader.proofs.TextLemmas.{text_is}
+use Rattle.mc_reader.proofs.{Blocks.not_true, Fits.both, Gathers.neither_has, Gathers.none_joined, ItemLemmas.hit_is, TextLemmas.text_is}
 
 -- ---- decimals
 

@@ -2,36 +2,22 @@
 use Rattle.std.proofs.Common.{◌≡◌, ℕ, ◌+◌, ◌<◌, ◌≤◌, ◌^◌, ◌==◌, nat_le, Bool, true, false, ◌&&◌, not, cond}
 use Rattle.std.proofs.Common.{Some, None, Ok, Err, List, [], ◌∷◌, ◌++◌, length, take, drop, codes, decimal}
 use Rattle.std.proofs.Common.{suc, refl, sym, ap, ◌∙◌, subst, arith, append_assoc, length-append}
-use Rattle.std.specs.List.{list_any, position_or_len}
-use Rattle.std.specs.Str.{bytes_eq}
-use Rattle.std.specs.Str.Parse.{digits_value}
-use Rattle.std.proofs.lemmas.Bool.{and_parts, eqb-true, le-leb}
-use Rattle.std.proofs.lemmas.Bool.Decides.{nat_tests}
 use Rattle.std.proofs.lemmas.Fmt.{decimal_nonempty, digits_decimal, digits_value-decimal, length-decimal-le}
-use Rattle.std.proofs.lemmas.List.{take_all}
+use Rattle.std.proofs.{lemmas.Bool.and_parts, lemmas.Bool.eqb-true, lemmas.Bool.le-leb, lemmas.Bool.Decides.nat_tests, lemmas.List.take_all}
+use Rattle.std.specs.{List.list_any, List.position_or_len, Str.bytes_eq, Str.Parse.digits_value}
 use Rattle.mc_protocol.proofs.Digits.{digits}
-use Rattle.mc_protocol.specs.Decimals.{MAX_64, is_digit, are_digits, has_digits_alone}
-use Rattle.mc_protocol.specs.Legal.{class_of, is_legal, suits, is_fit_for}
-use Rattle.mc_protocol.specs.Lines.{Word}
-use Rattle.mc_protocol.specs.Texts.{reply_text}
+use Rattle.mc_protocol.specs.{Decimals.MAX_64, Decimals.is_digit, Decimals.are_digits, Decimals.has_digits_alone, Legal.class_of, Legal.is_legal, Legal.suits}
+use Rattle.mc_protocol.specs.{Legal.is_fit_for, Lines.Word, Texts.reply_text, declared.reply.Reply.Reply, declared.request.Verb.Verb}
 use Rattle.mc_protocol.specs.declared.reply.Class.TheVariants as class
-use Rattle.mc_protocol.specs.declared.reply.Reply.{Reply}
 use Rattle.mc_protocol.specs.declared.reply.Reply.TheVariants as reply
-use Rattle.mc_protocol.specs.declared.request.Verb.{Verb}
-use Rattle.mc_reader.specs.Lines.{CR, LF, has_end, line_says, says_of_text}
-use Rattle.mc_reader.specs.Replies.{one_line, Spells}
 use Rattle.mc_reader.specs.Words.{is_space, first_word, words_of, are_spaces, reply_of_word, error_of, error_says, number_says}
 use Rattle.mc_reader.specs.Words.{others_say, text_says, says_after_word, says_after_words, hit_says}
-use Rattle.mc_reader.specs.declared.limits.TheConstants.{NUMBER_SPACES_LIMIT}
 use Rattle.mc_reader.specs.declared.fault.ReadFault.TheVariants.{NotAReply, NumberTooLarge, ErrorLine}
 use Rattle.mc_reader.specs.declared.fault.ErrorKind.TheVariants.{Error, Client, Server}
-use Rattle.mc_reader.specs.declared.said.Said.TheVariants.{Whole}
-use Rattle.mc_reader.proofs.Blocks.{not_true}
-use Rattle.mc_reader.proofs.Fits.{both}
-use Rattle.mc_reader.proofs.Gathers.{neither_has}
-use Rattle.mc_reader.proofs.ItemLemmas.{first_fails}
+use Rattle.mc_reader.specs.{Lines.CR, Lines.LF, Lines.has_end, Lines.line_says, Lines.says_of_text, Replies.one_line, Replies.Spells}
+use Rattle.mc_reader.specs.{declared.limits.TheConstants.NUMBER_SPACES_LIMIT, declared.said.Said.TheVariants.Whole}
 use Rattle.mc_reader.proofs.LineEnds.{neither, has_end-append}
-use Rattle.mc_reader.proofs.TextLemmas.{text_is}
+use Rattle.mc_reader.proofs.{Blocks.not_true, Fits.both, Gathers.neither_has, ItemLemmas.first_fails, TextLemmas.text_is}
 
 -- ---- replies of one word
 

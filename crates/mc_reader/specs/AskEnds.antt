@@ -4,11 +4,9 @@
 use Rattle.std.specs.Prelude.{◌≡◌, ℕ, ◌==◌, false, List, [], ◌∷◌, ◌++◌, length}
 use Rattle.mc_protocol.specs.declared.request.Request.{Request}
 use Rattle.mc_reader.specs.AskLines.{Whole, Block, Skips, line_says}
-use Rattle.mc_reader.specs.Asks.{Asking, One, Refused}
-use Rattle.mc_reader.specs.Lines.{CR, LF, IsLine, IsTooLong}
-use Rattle.mc_reader.specs.declared.ask.Refuse.{Refuse}
 use Rattle.mc_reader.specs.declared.ask.Refuse.TheVariants.{BadChunk, LongLine}
-use Rattle.mc_reader.specs.declared.ask_said.StoreLine.{StoreLine}
+use Rattle.mc_reader.specs.{Asks.Asking, Asks.One, Asks.Refused, Lines.CR, Lines.LF, Lines.IsLine, Lines.IsTooLong}
+use Rattle.mc_reader.specs.{declared.ask.Refuse.Refuse, declared.ask_said.StoreLine.StoreLine}
 
 -- the request of a line with this body
 abbrev pub request_of : StoreLine → List ℕ → Request

@@ -1,17 +1,10 @@
 -- Laws of the grammar of requests.
 use Rattle.std.specs.Prelude.{◌≡◌, ℕ, ◌<◌, ◌≤◌, true, false, List, ◌++◌, length}
-use Rattle.mc_protocol.specs.Decimals.{MAX_32, MAX_64}
-use Rattle.mc_protocol.specs.Fields.{fields_of}
-use Rattle.mc_protocol.specs.Texts.{request_text}
-use Rattle.mc_protocol.specs.declared.request.Fields.{Fields}
+use Rattle.mc_protocol.specs.{Decimals.MAX_32, Decimals.MAX_64, Fields.fields_of, Texts.request_text, declared.request.Fields.Fields}
+use Rattle.mc_protocol.specs.{declared.request.Request.Request, declared.request.Verb.Verb}
 use Rattle.mc_protocol.specs.declared.request.Fields.TheVariants as fields
-use Rattle.mc_protocol.specs.declared.request.Request.{Request}
-use Rattle.mc_protocol.specs.declared.request.Verb.{Verb}
-use Rattle.mc_reader.specs.AskEnds.{AskEnds}
-use Rattle.mc_reader.specs.AskLines.{bare}
-use Rattle.mc_reader.specs.AskWords.{is_request_key}
-use Rattle.mc_reader.specs.Asks.{Asking, One}
 use Rattle.mc_reader.specs.declared.limits.TheConstants.{REQUEST_BODY_LIMIT}
+use Rattle.mc_reader.specs.{AskEnds.AskEnds, AskLines.bare, AskWords.is_request_key, Asks.Asking, Asks.One}
 
 -- of two texts that end, begun by the same bytes, neither is shorter, and they ask the same: so the requests of a stream are
 -- determined

@@ -1,24 +1,15 @@
 -- What the line of a request says, by its words (protocol.txt). The refusals are this project's own.
 use Rattle.std.specs.Prelude.{ℕ, ◌+◌, Bool, true, false, not, nat_le, Option, Some, None, List, [], ◌∷◌, codes, if◌then◌else◌}
-use Rattle.std.specs.List.{list_all}
-use Rattle.std.specs.Option.{unwrap_or}
-use Rattle.std.specs.Str.{bytes_eq}
-use Rattle.mc_protocol.specs.Decimals.{MAX_32, MAX_64}
-use Rattle.mc_protocol.specs.Legal.{shows_number}
-use Rattle.mc_protocol.specs.Lines.{Word, Words, words_of}
-use Rattle.mc_protocol.specs.declared.lines.Separator.TheVariants.{Space}
-use Rattle.mc_protocol.specs.declared.request.Request.{Request}
-use Rattle.mc_protocol.specs.declared.request.Verb.{Verb}
+use Rattle.std.specs.{List.list_all, Option.unwrap_or, Str.bytes_eq}
+use Rattle.mc_protocol.specs.{Decimals.MAX_32, Decimals.MAX_64, Legal.shows_number, Lines.Word, Lines.Words, Lines.words_of}
+use Rattle.mc_protocol.specs.{declared.lines.Separator.TheVariants.Space, declared.request.Request.Request, declared.request.Verb.Verb}
 use Rattle.mc_protocol.specs.declared.request.Verb.TheVariants as verb
 use Rattle.mc_reader.specs.AskWords.{number_in, time_in, is_request_key}
-use Rattle.mc_reader.specs.Asks.{Asking, One, Many, Quit, Refused}
-use Rattle.mc_reader.specs.Lines.{text_of}
-use Rattle.mc_reader.specs.declared.ask.Refuse.{Refuse}
 use Rattle.mc_reader.specs.declared.ask.Refuse.TheVariants.{Unknown, BadLine, Expiry, TooLarge}
-use Rattle.mc_reader.specs.declared.ask_said.Command.{Command}
 use Rattle.mc_reader.specs.declared.ask_said.Command.TheVariants.{Retrieves, Stores, Swaps, Counts, Deletes, Touches, Quits}
-use Rattle.mc_reader.specs.declared.ask_said.StoreLine.{StoreLine}
 use Rattle.mc_reader.specs.declared.limits.TheConstants.{REQUEST_BODY_LIMIT, ANNOUNCED_LIMIT}
+use Rattle.mc_reader.specs.{Asks.Asking, Asks.One, Asks.Many, Asks.Quit, Asks.Refused, Lines.text_of, declared.ask.Refuse.Refuse}
+use Rattle.mc_reader.specs.{declared.ask_said.Command.Command, declared.ask_said.StoreLine.StoreLine}
 
 -- what a line says: all that is asked; that a block follows; or that the request is refused, and so is
 -- this number of bytes after the line

@@ -1,12 +1,9 @@
 -- What the readers of a line keep, as the definitions see it.
 use Rattle.std.specs.Prelude.{◌≡◌, true, false, Option, Some, None, Vec, List, ◌++◌, ℕ}
-use Rattle.std.specs.List.{list_all}
-use Rattle.std.specs.declared.alloc.Global.{Global}
+use Rattle.std.specs.{List.list_all, declared.alloc.Global.Global}
 use Rattle.mc_protocol.specs.Lines.{Words}
 use Rattle.mc_reader.specs.AskLines.{LineSays, Whole, Block, Skips}
-use Rattle.mc_reader.specs.AskWords.{is_request_key}
-use Rattle.mc_reader.specs.Asks.{ask_of}
-use Rattle.mc_reader.specs.declared.ask_said.AskSaid.{AskSaid}
+use Rattle.mc_reader.specs.{AskWords.is_request_key, Asks.ask_of, declared.ask_said.AskSaid.AskSaid}
 use Rattle.mc_reader.specs.declared.ask_said.AskSaid.TheVariants as said
 
 abbrev pub said_of : AskSaid → LineSays

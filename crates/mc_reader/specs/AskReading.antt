@@ -1,15 +1,10 @@
 -- A reader of requests, by what it has read of the request at hand.
 use Rattle.std.specs.Prelude.{◌≡◌, ℕ, ◌+◌, ◌<◌, ◌≤◌, Result, Ok, Err, List, [], ◌∷◌, ◌++◌, length, take, if◌then◌else◌, ◌⊎◌}
-use Rattle.mc_reader.specs.AskEnds.{AskEnds, IsAskUnfinished}
-use Rattle.mc_reader.specs.AskLines.{Block, Skips, line_says}
-use Rattle.mc_reader.specs.Asks.{Asking, closes, ask_of}
-use Rattle.mc_reader.specs.Lines.{CR, LF, IsLine}
-use Rattle.mc_reader.specs.declared.ask.Asked.{Asked}
 use Rattle.mc_reader.specs.declared.ask.Asked.TheVariants.{More, Done}
-use Rattle.mc_reader.specs.declared.ask.AskFault.{AskFault}
 use Rattle.mc_reader.specs.declared.ask.AskFault.TheVariants.{OutOfMemory, Failed}
-use Rattle.mc_reader.specs.declared.ask.Refuse.{Refuse}
-use Rattle.mc_reader.specs.declared.ask_said.StoreLine.{StoreLine}
+use Rattle.mc_reader.specs.{AskEnds.AskEnds, AskEnds.IsAskUnfinished, AskLines.Block, AskLines.Skips, AskLines.line_says, Asks.Asking}
+use Rattle.mc_reader.specs.{Asks.closes, Asks.ask_of, Lines.CR, Lines.LF, Lines.IsLine, declared.ask.Asked.Asked}
+use Rattle.mc_reader.specs.{declared.ask.AskFault.AskFault, declared.ask.Refuse.Refuse, declared.ask_said.StoreLine.StoreLine}
 
 -- How far a reader has come: in a line, of which these bytes were read; after the line of a request that brings a body, of which
 -- these; after the line of a refused request, where this number of bytes is still to be skipped; or nothing is read any more.

@@ -1,20 +1,13 @@
 -- How far a reader of requests has come, and what one piece does to it.
 use Rattle.std.specs.Prelude.{◌≡◌, ℕ, ◌+◌, ◌<◌, ◌≤◌, Result, Ok, Err, List, [], ◌∷◌, ◌++◌, length}
-use Rattle.mc_reader.specs.AskEnds.{AskEnds, ChunkEnds}
-use Rattle.mc_reader.specs.AskLines.{LineSays, line_says}
 use Rattle.mc_reader.specs.AskReading.{Progress, InLine, InBlock, Skipping, Over, HasRead, IsBlockFront}
-use Rattle.mc_reader.specs.Asks.{Asking, ask_of}
-use Rattle.mc_reader.specs.Lines.{CR, LF, IsLine}
-use Rattle.mc_reader.specs.Steps.{EndsAt}
-use Rattle.mc_reader.specs.declared.ask.AskFault.{AskFault}
 use Rattle.mc_reader.specs.declared.ask.AskFault.TheVariants.{OutOfMemory, Failed}
-use Rattle.mc_reader.specs.declared.ask.Ask.TheVariants as ask
-use Rattle.mc_reader.specs.declared.ask.Refuse.{Refuse}
-use Rattle.mc_reader.specs.declared.ask_said.StoreLine.{StoreLine}
-use Rattle.mc_reader.specs.declared.ask_stage.AskStage.{AskStage}
-use Rattle.mc_reader.specs.declared.ask_stage.AskStage.TheVariants as stage
-use Rattle.mc_reader.specs.declared.ask_stage.AskStep.{AskStep}
 use Rattle.mc_reader.specs.declared.ask_stage.AskStep.TheVariants.{More, Done}
+use Rattle.mc_reader.specs.{AskEnds.AskEnds, AskEnds.ChunkEnds, AskLines.LineSays, AskLines.line_says, Asks.Asking, Asks.ask_of, Lines.CR}
+use Rattle.mc_reader.specs.{Lines.LF, Lines.IsLine, Steps.EndsAt, declared.ask.AskFault.AskFault, declared.ask.Refuse.Refuse}
+use Rattle.mc_reader.specs.{declared.ask_said.StoreLine.StoreLine, declared.ask_stage.AskStage.AskStage, declared.ask_stage.AskStep.AskStep}
+use Rattle.mc_reader.specs.declared.ask.Ask.TheVariants as ask
+use Rattle.mc_reader.specs.declared.ask_stage.AskStage.TheVariants as stage
 
 abbrev pub progress_of : AskStage → Progress
 progress_of (stage.Line start) = InLine start.items

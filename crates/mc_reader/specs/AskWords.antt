@@ -1,12 +1,9 @@
 -- The numbers and keys in the words of a request (protocol.txt). A word isn't empty.
 use Rattle.std.specs.Prelude.{◌≡◌, ℕ, ◌==◌, Bool, true, false, not, ◌&&◌, nat_le, nat_lt}
 use Rattle.std.specs.Prelude.{Option, Some, None, List, [], ◌∷◌, length, if◌then◌else◌}
-use Rattle.std.specs.List.{list_all}
-use Rattle.std.specs.Str.Parse.{digits_value}
-use Rattle.mc_protocol.specs.Decimals.{has_digits_alone}
-use Rattle.mc_protocol.specs.Lines.{Word}
-use Rattle.mc_reader.specs.Words.{is_space}
-use Rattle.mc_reader.specs.declared.limits.TheConstants.{REQUEST_KEY_LIMIT}
+use Rattle.std.specs.{List.list_all, Str.Parse.digits_value}
+use Rattle.mc_protocol.specs.{Decimals.has_digits_alone, Lines.Word}
+use Rattle.mc_reader.specs.{Words.is_space, declared.limits.TheConstants.REQUEST_KEY_LIMIT}
 
 -- the number that the word spells, where it is at most the greatest; any number of zeros may lead
 unfoldable pub number_in : ℕ → Word → Option ℕ

@@ -1,7 +1,6 @@
 -- What a server is asked, as contracts see it: the keys of a retrieval are a list.
 use Rattle.std.specs.Prelude.{Bool, true, false}
-use Rattle.mc_protocol.specs.Lines.{Words}
-use Rattle.mc_protocol.specs.declared.request.Request.{Request}
+use Rattle.mc_protocol.specs.{Lines.Words, declared.request.Request.Request}
 use Rattle.mc_reader.specs.declared.ask.Ask as code
 use Rattle.mc_reader.specs.declared.ask.Ask.TheVariants as ask
 use Rattle.mc_reader.specs.declared.ask.Refuse.{Refuse}

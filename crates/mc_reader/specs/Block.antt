@@ -1,10 +1,8 @@
 -- What was read of a hit after its first line.
 use Rattle.std.specs.Prelude.{◌≡◌, ℕ, ◌≤◌, List, [], ◌∷◌, ◌++◌, length}
-use Rattle.mc_reader.specs.Lines.{CR, LF, IsLine}
-use Rattle.mc_reader.specs.declared.block.Block.{Block}
-use Rattle.mc_reader.specs.declared.block.Ending.{Ending}
-use Rattle.mc_reader.specs.declared.block.Ending.TheVariants as ending
 use Rattle.mc_reader.specs.declared.said.HitLine.{HitLine}
+use Rattle.mc_reader.specs.{Lines.CR, Lines.LF, Lines.IsLine, declared.block.Block.Block, declared.block.Ending.Ending}
+use Rattle.mc_reader.specs.declared.block.Ending.TheVariants as ending
 
 abbrev pub ending_read : Ending → List ℕ
 ending_read ending.Unread = []

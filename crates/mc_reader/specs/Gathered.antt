@@ -1,8 +1,7 @@
 -- Lines that come in pieces.
 use Rattle.std.specs.Prelude.{◌≡◌, ℕ, ◌+◌, ◌<◌, ◌≤◌, false, Option, Some, None, Result, Ok, Err, List, [], ◌∷◌, ◌++◌, length, take, drop}
-use Rattle.mc_reader.specs.Lines.{LF, has_end, IsLine, IsTooLong}
-use Rattle.mc_reader.specs.declared.fault.ReadFault.{ReadFault}
 use Rattle.mc_reader.specs.declared.fault.ReadFault.TheVariants.{LineTooLong, OutOfMemory}
+use Rattle.mc_reader.specs.{Lines.LF, Lines.has_end, Lines.IsLine, Lines.IsTooLong, declared.fault.ReadFault.ReadFault}
 
 -- the first LF of the piece stands here
 pub record IsFirstEnd (piece : List ℕ) (at : ℕ) : Type 0 where

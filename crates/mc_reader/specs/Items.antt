@@ -1,13 +1,9 @@
 -- The words of a line that may announce a hit.
 use Rattle.std.specs.Prelude.{◌≡◌, Option, Some, None, Err, [], ◌∷◌, if◌then◌else◌, ℕ}
-use Rattle.std.specs.Borrow.{Bor}
-use Rattle.std.specs.Option.{option_map}
-use Rattle.std.specs.Str.Parse.{digits_value}
-use Rattle.mc_protocol.specs.Lines.{Word, Words}
-use Rattle.mc_protocol.specs.declared.request.Verb.{Verb}
-use Rattle.mc_reader.specs.Words.{hit_says, is_too_large}
+use Rattle.std.specs.{Borrow.Bor, Option.option_map, Str.Parse.digits_value}
+use Rattle.mc_protocol.specs.{Lines.Word, Lines.Words, declared.request.Verb.Verb}
 use Rattle.mc_reader.specs.declared.fault.ReadFault.TheVariants.{NotAReply}
-use Rattle.mc_reader.specs.declared.item.ItemWords.{ItemWords}
+use Rattle.mc_reader.specs.{Words.hit_says, Words.is_too_large, declared.item.ItemWords.ItemWords}
 
 abbrev pub shown : Option (Bor Word) → Option Word
 shown cas = option_map (λ word. word.now) cas

@@ -1,16 +1,10 @@
 -- Laws of the grammar of replies.
 use Rattle.std.specs.Prelude.{◌≡◌, ℕ, ◌<◌, ◌≤◌, true, false, Some, None, List, ◌++◌, length}
 use Rattle.std.specs.List.{list_any}
-use Rattle.mc_protocol.specs.Decimals.{MAX_32, MAX_64}
-use Rattle.mc_protocol.specs.Legal.{is_fit_for}
-use Rattle.mc_protocol.specs.Lines.{Word}
-use Rattle.mc_protocol.specs.Texts.{reply_text}
-use Rattle.mc_protocol.specs.declared.reply.Reply.{Reply}
-use Rattle.mc_protocol.specs.declared.reply.Reply.TheVariants as reply
 use Rattle.mc_protocol.specs.declared.request.Verb.{Verb}
-use Rattle.mc_reader.specs.Lines.{has_end}
-use Rattle.mc_reader.specs.Replies.{Outcome, Ends, Spells}
-use Rattle.mc_reader.specs.Words.{is_space}
+use Rattle.mc_protocol.specs.{Decimals.MAX_32, Decimals.MAX_64, Legal.is_fit_for, Lines.Word, Texts.reply_text, declared.reply.Reply.Reply}
+use Rattle.mc_protocol.specs.declared.reply.Reply.TheVariants as reply
+use Rattle.mc_reader.specs.{Lines.has_end, Replies.Outcome, Replies.Ends, Replies.Spells, Words.is_space}
 
 -- of two texts that end, begun by the same bytes, neither is shorter, and they end alike
 abbrev pub OneReply : Type 0

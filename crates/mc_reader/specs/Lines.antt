@@ -1,16 +1,10 @@
 -- The lines of a reply, and what they say. What a line is holds for requests too.
 use Rattle.std.specs.Prelude.{◌≡◌, ℕ, ◌==◌, ◌<◌, Bool, false, Option, Some, None, Result, Ok, Err, List, [], ◌∷◌, length, if◌then◌else◌}
-use Rattle.std.specs.List.{list_any}
-use Rattle.std.specs.Borrow.{Bor}
-use Rattle.std.specs.Option.{option_map}
-use Rattle.mc_protocol.specs.Lines.{Word}
-use Rattle.mc_protocol.specs.declared.reply.Reply.{Reply}
-use Rattle.mc_protocol.specs.declared.request.Verb.{Verb}
-use Rattle.mc_reader.specs.Words.{text_says, end_fault}
-use Rattle.mc_reader.specs.declared.fault.ReadFault.{ReadFault}
+use Rattle.std.specs.{List.list_any, Borrow.Bor, Option.option_map}
+use Rattle.mc_protocol.specs.{Lines.Word, declared.reply.Reply.Reply, declared.request.Verb.Verb}
 use Rattle.mc_reader.specs.declared.fault.ReadFault.TheVariants.{NotAReply}
 use Rattle.mc_reader.specs.declared.limits.TheConstants.{LINE_LIMIT}
-use Rattle.mc_reader.specs.declared.said.Said.{Said}
+use Rattle.mc_reader.specs.{Words.text_says, Words.end_fault, declared.fault.ReadFault.ReadFault, declared.said.Said.Said}
 
 -- a line ends with CR LF
 abbrev pub CR : ℕ

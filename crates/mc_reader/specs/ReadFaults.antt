@@ -1,8 +1,7 @@
 -- The numbers and names of faults.
 use Rattle.std.specs.Prelude.{ℕ, List, codes}
-use Rattle.mc_reader.specs.declared.fault.ErrorKind.{ErrorKind}
 use Rattle.mc_reader.specs.declared.fault.ErrorKind.TheVariants.{Error, Client, Server}
-use Rattle.mc_reader.specs.declared.fault.ReadFault.{ReadFault}
+use Rattle.mc_reader.specs.{declared.fault.ErrorKind.ErrorKind, declared.fault.ReadFault.ReadFault}
 use Rattle.mc_reader.specs.declared.fault.ReadFault.TheVariants as fault
 
 abbrev pub fault_number : ReadFault → ℕ

@@ -1,13 +1,9 @@
 -- A reader of replies, by the bytes that it was fed.
 use Rattle.std.specs.Prelude.{◌≡◌, ℕ, ◌≤◌, Option, Some, None, Result, Ok, Err, true, List, ◌++◌, length, take}
-use Rattle.mc_protocol.specs.Legal.{is_fit_for}
-use Rattle.mc_protocol.specs.Lines.{Word}
-use Rattle.mc_protocol.specs.declared.request.Verb.{Verb}
-use Rattle.mc_reader.specs.Replies.{Spells, IsUnfinished, HasFailed}
-use Rattle.mc_reader.specs.declared.fault.ReadFault.{ReadFault}
+use Rattle.mc_protocol.specs.{Legal.is_fit_for, Lines.Word, declared.request.Verb.Verb}
 use Rattle.mc_reader.specs.declared.fault.ReadFault.TheVariants.{OutOfMemory, Failed}
-use Rattle.mc_reader.specs.declared.reader.Fed.{Fed}
-use Rattle.mc_reader.specs.declared.reader.Fed.TheVariants.{More, Done}
+use Rattle.mc_reader.specs.{Replies.Spells, Replies.IsUnfinished, Replies.HasFailed, declared.fault.ReadFault.ReadFault}
+use Rattle.mc_reader.specs.{declared.reader.Fed.Fed, declared.reader.Fed.TheVariants.More, declared.reader.Fed.TheVariants.Done}
 
 -- the request whose reply is read, and the joined bytes that were fed so far; none once a reply or a fault was answered
 pub record Reading : Type 0 where

@@ -1,16 +1,12 @@
 -- The reply to a request, as it comes over the wire (protocol.txt): the texts that spell a reply, and the shortest texts at
 -- which it fails. A line is judged at its LF, and a byte of data where it stands.
 use Rattle.std.specs.Prelude.{◌≡◌, ℕ, ◌==◌, false, Result, Ok, Err, List, [], ◌∷◌, ◌++◌, length}
-use Rattle.mc_protocol.specs.Lines.{Word}
-use Rattle.mc_protocol.specs.declared.reply.Reply.{Reply}
+use Rattle.mc_protocol.specs.{Lines.Word, declared.reply.Reply.Reply, declared.request.Verb.Verb}
 use Rattle.mc_protocol.specs.declared.reply.Reply.TheVariants as reply
-use Rattle.mc_protocol.specs.declared.request.Verb.{Verb}
 use Rattle.mc_reader.specs.Lines.{CR, LF, IsLine, IsTooLong, line_says, end_says}
-use Rattle.mc_reader.specs.declared.fault.ReadFault.{ReadFault}
 use Rattle.mc_reader.specs.declared.fault.ReadFault.TheVariants.{LineTooLong, DataNotEnded}
-use Rattle.mc_reader.specs.declared.said.HitLine.{HitLine}
-use Rattle.mc_reader.specs.declared.said.Said.{Said}
 use Rattle.mc_reader.specs.declared.said.Said.TheVariants.{Whole, Hit}
+use Rattle.mc_reader.specs.{declared.fault.ReadFault.ReadFault, declared.said.HitLine.HitLine, declared.said.Said.Said}
 
 -- a reply or a fault
 abbrev pub Outcome : Type 0

@@ -1,20 +1,12 @@
 -- How far a reader of replies has come.
 use Rattle.std.specs.Prelude.{◌≡◌, ℕ, Option, Some, None, Result, Ok, Err, List, ◌∷◌, ◌++◌, Vec}
 use Rattle.std.specs.declared.alloc.Global.{Global}
-use Rattle.mc_protocol.specs.Lines.{Word}
-use Rattle.mc_protocol.specs.declared.request.Verb.{Verb}
-use Rattle.mc_reader.specs.Block.{block_read, IsBlock}
-use Rattle.mc_reader.specs.Lines.{LF, IsLine, line_says}
-use Rattle.mc_reader.specs.Replies.{Ends}
-use Rattle.mc_reader.specs.Steps.{IsStep}
-use Rattle.mc_reader.specs.declared.block.Block.{Block}
-use Rattle.mc_reader.specs.declared.fault.ReadFault.{ReadFault}
-use Rattle.mc_reader.specs.declared.fault.ReadFault.TheVariants.{Failed}
-use Rattle.mc_reader.specs.declared.said.Said.TheVariants.{Hit}
-use Rattle.mc_reader.specs.declared.stage.Stage.{Stage}
+use Rattle.mc_protocol.specs.{Lines.Word, declared.request.Verb.Verb}
+use Rattle.mc_reader.specs.{Block.block_read, Block.IsBlock, Lines.LF, Lines.IsLine, Lines.line_says, Replies.Ends, Steps.IsStep}
+use Rattle.mc_reader.specs.{declared.block.Block.Block, declared.fault.ReadFault.ReadFault, declared.fault.ReadFault.TheVariants.Failed}
+use Rattle.mc_reader.specs.{declared.said.Said.TheVariants.Hit, declared.stage.Stage.Stage, declared.step.Step.Step}
+use Rattle.mc_reader.specs.{declared.step.Step.TheVariants.More, declared.step.Step.TheVariants.Done}
 use Rattle.mc_reader.specs.declared.stage.Stage.TheVariants as stage
-use Rattle.mc_reader.specs.declared.step.Step.{Step}
-use Rattle.mc_reader.specs.declared.step.Step.TheVariants.{More, Done}
 
 -- the bytes that were read, until a reply or a fault was answered
 abbrev pub stage_fed : Stage → Option (List ℕ)

@@ -1,10 +1,8 @@
 -- What one piece does to what was read before it.
 use Rattle.std.specs.Prelude.{◌≡◌, ℕ, Result, Ok, Err, List, ◌++◌, length}
-use Rattle.mc_reader.specs.Replies.{Outcome}
-use Rattle.mc_reader.specs.declared.fault.ReadFault.{ReadFault}
 use Rattle.mc_reader.specs.declared.fault.ReadFault.TheVariants.{OutOfMemory, Failed}
-use Rattle.mc_reader.specs.declared.step.Step.{Step}
 use Rattle.mc_reader.specs.declared.step.Step.TheVariants.{More, Done}
+use Rattle.mc_reader.specs.{Replies.Outcome, declared.fault.ReadFault.ReadFault, declared.step.Step.Step}
 
 -- the text and a front of the piece end with this outcome, and `unread` bytes of the piece come after them
 pub record EndsAt {O : Type 0} (E : List ℕ → O → Type 0) (text piece : List ℕ) (outcome : O) (unread : ℕ) : Type 0 where

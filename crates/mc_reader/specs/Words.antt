@@ -2,26 +2,17 @@
 -- word stands between them.
 use Rattle.std.specs.Prelude.{ℕ, ◌==◌, Bool, true, false, not, ◌&&◌, ◌||◌, nat_le, Option, Some, None}
 use Rattle.std.specs.Prelude.{Result, Ok, Err, List, [], ◌∷◌, length, drop, codes, if◌then◌else◌}
-use Rattle.std.specs.List.{list_all, slice_split, before_first}
-use Rattle.std.specs.Option.{option_map}
-use Rattle.std.specs.Str.{bytes_eq}
-use Rattle.std.specs.Str.Parse.{digits_value}
-use Rattle.mc_protocol.specs.Decimals.{MAX_32, MAX_64, has_digits_alone}
-use Rattle.mc_protocol.specs.Legal.{class_of, is_legal, shows_number}
-use Rattle.mc_protocol.specs.Lines.{Word, Words}
+use Rattle.std.specs.{List.list_all, List.slice_split, List.before_first, Option.option_map, Str.bytes_eq, Str.Parse.digits_value}
 use Rattle.mc_protocol.specs.declared.limits.TheConstants.{REPLY_BODY_LIMIT}
+use Rattle.mc_protocol.specs.{Decimals.MAX_32, Decimals.MAX_64, Decimals.has_digits_alone, Legal.class_of, Legal.is_legal}
+use Rattle.mc_protocol.specs.{Legal.shows_number, Lines.Word, Lines.Words, declared.reply.Reply.Reply, declared.request.Verb.Verb}
 use Rattle.mc_protocol.specs.declared.reply.Class.TheVariants as class
-use Rattle.mc_protocol.specs.declared.reply.Reply.{Reply}
 use Rattle.mc_protocol.specs.declared.reply.Reply.TheVariants as reply
-use Rattle.mc_protocol.specs.declared.request.Verb.{Verb}
-use Rattle.mc_reader.specs.ReadFaults.{error_word}
-use Rattle.mc_reader.specs.declared.fault.ErrorKind.{ErrorKind}
 use Rattle.mc_reader.specs.declared.fault.ErrorKind.TheVariants.{Error, Client, Server}
-use Rattle.mc_reader.specs.declared.fault.ReadFault.{ReadFault}
-use Rattle.mc_reader.specs.declared.fault.ReadFault.TheVariants as fault
 use Rattle.mc_reader.specs.declared.limits.TheConstants.{NUMBER_SPACES_LIMIT}
-use Rattle.mc_reader.specs.declared.said.Said.{Said}
-use Rattle.mc_reader.specs.declared.said.Said.TheVariants.{Whole, Hit}
+use Rattle.mc_reader.specs.{ReadFaults.error_word, declared.fault.ErrorKind.ErrorKind, declared.fault.ReadFault.ReadFault}
+use Rattle.mc_reader.specs.{declared.said.Said.Said, declared.said.Said.TheVariants.Whole, declared.said.Said.TheVariants.Hit}
+use Rattle.mc_reader.specs.declared.fault.ReadFault.TheVariants as fault
 
 abbrev pub is_space : ℕ → Bool
 is_space byte = byte == 32

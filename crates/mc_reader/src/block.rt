@@ -1,9 +1,7 @@
 //! What comes after the first line of a hit: the body, CR LF, and the line `END`.
 ghost use Rattle.std.specs.Prelude.{◌≡◌, [], ◌∷◌, ◌++◌, ◌≤◌, length, MatchResult};
 ghost use Rattle.mc_reader.specs.Block as spec;
-ghost use Rattle.mc_reader.specs.Lines.{CR, LF, IsLine};
-ghost use Rattle.mc_reader.specs.Replies.{BlockEnds};
-ghost use Rattle.mc_reader.specs.Steps.{IsStep};
+ghost use Rattle.mc_reader.specs.{Lines.CR, Lines.LF, Lines.IsLine, Replies.BlockEnds, Steps.IsStep};
 
 use crate::ReadFault;
 use crate::gather::{gather, joined};

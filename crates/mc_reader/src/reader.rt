@@ -1,7 +1,6 @@
 //! The reader of replies.
 ghost use Rattle.std.specs.Prelude.{◌≡◌, [], Some};
-ghost use Rattle.mc_reader.specs.Reading.{IsAnswerAfter};
-ghost use Rattle.mc_reader.specs.Replies.{IsUnfinished};
+ghost use Rattle.mc_reader.specs.{Reading.IsAnswerAfter, Replies.IsUnfinished};
 
 use crate::stage::{Stage, read_on};
 use crate::step::Step;

@@ -1,9 +1,7 @@
 //! How far a reader has come, and its next step.
 ghost use Rattle.std.specs.Prelude.{◌≡◌, Ok, ◌++◌, ◌∷◌, IfErr};
-ghost use Rattle.mc_reader.specs.Lines.{LF, IsLine, line_says};
-ghost use Rattle.mc_reader.specs.Replies.{Ends};
+ghost use Rattle.mc_reader.specs.{Lines.LF, Lines.IsLine, Lines.line_says, Replies.Ends, Steps.IsStep};
 ghost use Rattle.mc_reader.specs.Stages as spec;
-ghost use Rattle.mc_reader.specs.Steps.{IsStep};
 
 use crate::block::Block;
 use crate::gather::{gather, joined, owned};

@@ -1,8 +1,7 @@
 -- Fronts of timelines that nothing explains, and their texts.
 use Rattle.std.proofs.Common.{◌≡◌, ◌∙◌, ap, sym, subst, ℕ, List, ◌++◌, length, take}
 use Rattle.std.proofs.Math.Seq.{take-length}
-use Rattle.mc_timeline.specs.Timelines.{ClientNote, restricted}
-use Rattle.mc_timeline.specs.TimelineText.{timeline_text}
+use Rattle.mc_timeline.specs.{Timelines.ClientNote, Timelines.restricted, TimelineText.timeline_text}
 use Rattle.mc_linearize.specs.Verdicts.{IsUnexplained}
 use Rattle.mc_record.specs.Judging.{IsEvidence, IsUnexplainedFront}
 

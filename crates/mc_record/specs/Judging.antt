@@ -1,7 +1,6 @@
 -- What is told of a timeline that nothing explains.
 use Rattle.std.specs.Prelude.{◌≡◌, ◌++◌, ℕ, List, take}
-use Rattle.mc_timeline.specs.Timelines.{ClientNote, restricted}
-use Rattle.mc_timeline.specs.TimelineText.{timeline_text}
+use Rattle.mc_timeline.specs.{Timelines.ClientNote, Timelines.restricted, TimelineText.timeline_text}
 use Rattle.mc_linearize.specs.Verdicts.{IsUnexplained}
 
 -- the notes are the first ones of the timeline, and nothing explains the requests on the key among them

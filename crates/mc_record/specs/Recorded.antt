@@ -3,8 +3,7 @@ use Rattle.std.specs.Prelude.{◌≡◌, ℕ, ◌==◌, Bool, true, false, ◌&&
 use Rattle.mc_protocol.specs.declared.{request.Request.Request, request.Verb.Verb, reply.Reply.Reply}
 use Rattle.mc_model.specs.declared.note.Note.TheVariants as note
 use Rattle.mc_model.specs.History.{is_delete}
-use Rattle.mc_timeline.specs.Rules.{is_set}
-use Rattle.mc_timeline.specs.Timelines.{ClientNote}
+use Rattle.mc_timeline.specs.{Rules.is_set, Timelines.ClientNote}
 
 -- how many requests of the key may still act on it, since no reply has come to them; and the notes of its timeline, if it has one
 pub record Recorded : Type 0 where

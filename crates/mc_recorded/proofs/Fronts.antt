@@ -1,13 +1,9 @@
 -- What stands at the front of received bytes, by what a reader answers.
 use Rattle.std.specs.Prelude.{◌≡◌, ℕ, ◌≤◌, Option, Some, Ok, List, [], length, take}
 use Rattle.std.proofs.Common.{subst}
-use Rattle.mc_protocol.specs.Lines.{Word}
-use Rattle.mc_protocol.specs.declared.reply.Reply.{Reply}
-use Rattle.mc_protocol.specs.declared.request.Verb.{Verb}
-use Rattle.mc_reader.specs.Reading.{Reading, IsAnswerAfter}
-use Rattle.mc_reader.specs.Replies.{Spells, IsUnfinished}
-use Rattle.mc_reader.specs.declared.reader.Fed.{Fed}
+use Rattle.mc_protocol.specs.{Lines.Word, declared.reply.Reply.Reply, declared.request.Verb.Verb}
 use Rattle.mc_reader.specs.declared.reader.Fed.TheVariants.{More, Done}
+use Rattle.mc_reader.specs.{Reading.Reading, Reading.IsAnswerAfter, Replies.Spells, Replies.IsUnfinished, declared.reader.Fed.Fed}
 
 -- a reader that was fed nothing
 abbrev fresh : Verb → Word → Reading

@@ -2,13 +2,11 @@
 use Rattle.std.specs.Prelude.{◌≡◌, ◌⊎◌, ℕ, ◌+◌, ◌≤◌, Option, Some, None, Ok, List, [], ◌∷◌, ◌++◌, length, take, drop}
 use Rattle.std.proofs.Common.{inl, inr, refl, sym, ap, subst, ◌∙◌, arith, length-drop}
 use Rattle.std.proofs.lemmas.List.{append_cancel_left, drop-drop, take-append-drop}
-use Rattle.mc_protocol.specs.declared.reply.Reply.{Reply}
-use Rattle.mc_protocol.specs.declared.request.Request.{Request}
+use Rattle.mc_protocol.specs.{declared.reply.Reply.Reply, declared.request.Request.Request}
 use Rattle.mc_model.specs.declared.sent.Sent.{Sent}
 use Rattle.mc_reader.specs.Replies.{Spells}
 use Rattle.mc_recorded.specs.Fronts.{BeginsWith, CountsReply, CountsReplies}
-use Rattle.mc_recorded.specs.Recorded.{StandsAtFront, StandAtFront}
-use Rattle.mc_recorded.specs.declared.front.Front.{Front}
+use Rattle.mc_recorded.specs.{Recorded.StandsAtFront, Recorded.StandAtFront, declared.front.Front.Front}
 use Rattle.mc_recorded.specs.declared.front.Front.TheVariants as front
 use Rattle.mc_recorded.proofs.FromReader.{one_reply}
 

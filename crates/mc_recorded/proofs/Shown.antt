@@ -2,19 +2,14 @@
 use Rattle.std.specs.Prelude.{◌≡◌, ◌↔◌, ℕ, true, false, Option, Some, None, Ok, Err, List, take, drop}
 use Rattle.std.proofs.Common.{refl, sym, subst, ◌∙◌}
 use Rattle.std.proofs.lemmas.List.{take-append-drop}
-use Rattle.mc_protocol.specs.Lines.{Word}
-use Rattle.mc_protocol.specs.declared.fault.Fault.{Fault}
+use Rattle.mc_protocol.specs.{Lines.Word, declared.fault.Fault.Fault, declared.reply.Reply.Reply, declared.request.Verb.Verb}
 use Rattle.mc_protocol.specs.declared.fault.Fault.TheVariants as fault
-use Rattle.mc_protocol.specs.declared.reply.Reply.{Reply}
-use Rattle.mc_protocol.specs.declared.request.Verb.{Verb}
 use Rattle.mc_model.specs.declared.sent.Sent.{Sent}
 use Rattle.mc_lane.specs.Receiving.{IsMalformed}
-use Rattle.mc_reader.specs.Replies.{Spells, HasFailed}
-use Rattle.mc_reader.specs.declared.fault.ReadFault.{ReadFault}
+use Rattle.mc_reader.specs.{Replies.Spells, Replies.HasFailed, declared.fault.ReadFault.ReadFault}
 use Rattle.mc_reader.specs.declared.fault.ReadFault.TheVariants as read_fault
-use Rattle.mc_recorded.specs.Fronts.{BeginsWith, BeginsForWaiting, shows}
 use Rattle.mc_recorded.specs.Recorded.{waiting_of, FailsForWaiting, IsShownBy}
-use Rattle.mc_recorded.specs.declared.front.Front.{Front}
+use Rattle.mc_recorded.specs.{Fronts.BeginsWith, Fronts.BeginsForWaiting, Fronts.shows, declared.front.Front.Front}
 use Rattle.mc_recorded.specs.declared.front.Front.TheVariants as front
 use Rattle.mc_recorded.proofs.FromReader.{one_reply}
 

@@ -1,20 +1,15 @@
 -- What stands at the front of received bytes. No public contract cites these.
 use Rattle.std.specs.Prelude.{◌≡◌, ℕ, ◌≤◌, Bool, true, false, Option, Some, None, List, length, take, drop}
-use Rattle.mc_protocol.specs.Lines.{Word}
-use Rattle.mc_protocol.specs.declared.fault.Fault.{Fault}
-use Rattle.mc_protocol.specs.declared.fault.Fault.TheVariants as fault
-use Rattle.mc_protocol.specs.declared.reply.Reply.{Reply}
 use Rattle.mc_protocol.specs.declared.request.Request.{Request}
-use Rattle.mc_protocol.specs.declared.request.Verb.{Verb}
+use Rattle.mc_protocol.specs.{Lines.Word, declared.fault.Fault.Fault, declared.reply.Reply.Reply, declared.request.Verb.Verb}
+use Rattle.mc_protocol.specs.declared.fault.Fault.TheVariants as fault
 use Rattle.mc_model.specs.declared.sent.Sent.{Sent}
 use Rattle.mc_lane.specs.Receiving.{IsMalformed}
 use Rattle.mc_reader.specs.Replies.{Spells, IsUnfinished, HasFailed}
-use Rattle.mc_reader.specs.declared.fault.ErrorKind.{ErrorKind}
-use Rattle.mc_reader.specs.declared.fault.ReadFault.{ReadFault}
+use Rattle.mc_reader.specs.{declared.fault.ErrorKind.ErrorKind, declared.fault.ReadFault.ReadFault}
 use Rattle.mc_reader.specs.declared.fault.ReadFault.TheVariants as read_fault
-use Rattle.mc_recorded.specs.declared.front.Front.{Front}
+use Rattle.mc_recorded.specs.{declared.front.Front.Front, Recorded.waiting_of, Recorded.StandsAtFront, Recorded.StandAtFront}
 use Rattle.mc_recorded.specs.declared.front.Front.TheVariants as front
-use Rattle.mc_recorded.specs.Recorded.{waiting_of, StandsAtFront, StandAtFront}
 
 -- what the bytes begin with, where the reply to a request of this verb and key is due
 abbrev pub BeginsWith : Verb → Word → List ℕ → Front → Type 0

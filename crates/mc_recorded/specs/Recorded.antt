@@ -1,18 +1,11 @@
 -- What a lane recorded of the requests of a section, of the replies to them, and of the fault that ended it.
 use Rattle.std.specs.Prelude.{◌≡◌, ◌⊎◌, ℕ, Option, Some, None, is_some, is_none, List, [], ◌∷◌, ◌++◌, flat_map}
 use Rattle.std.specs.List.{filter, find}
-use Rattle.mc_protocol.specs.Texts.{request_text}
-use Rattle.mc_protocol.specs.declared.fault.Fault.{Fault}
+use Rattle.mc_protocol.specs.{Texts.request_text, declared.fault.Fault.Fault, declared.reply.Reply.Reply, declared.request.Request.Request}
 use Rattle.mc_protocol.specs.declared.fault.Fault.TheVariants as fault
-use Rattle.mc_protocol.specs.declared.reply.Reply.{Reply}
-use Rattle.mc_protocol.specs.declared.request.Request.{Request}
 use Rattle.mc_model.specs.declared.sent.Sent.{Sent}
-use Rattle.mc_lane.specs.Lanes.{LaneRecord}
-use Rattle.mc_lane.specs.Receiving.{IsMalformed}
-use Rattle.mc_lane.specs.Sending.{IsPrefix}
-use Rattle.mc_reader.specs.Replies.{Spells, HasFailed}
-use Rattle.mc_reader.specs.declared.fault.ErrorKind.{ErrorKind}
-use Rattle.mc_reader.specs.declared.fault.ReadFault.{ReadFault}
+use Rattle.mc_lane.specs.{Lanes.LaneRecord, Receiving.IsMalformed, Sending.IsPrefix}
+use Rattle.mc_reader.specs.{Replies.Spells, Replies.HasFailed, declared.fault.ErrorKind.ErrorKind, declared.fault.ReadFault.ReadFault}
 use Rattle.mc_reader.specs.declared.fault.ReadFault.TheVariants as read_fault
 
 -- ---- requests and their replies

@@ -1,13 +1,10 @@
 -- What is written after what was written before, and how far the handing on of bytes has come.
 use Rattle.std.proofs.Common.{◌≡◌, ℕ, ◌+◌, ◌<◌, ◌≤◌, true, false, Option, Result, Ok, Err, List, [], ◌++◌, length, take, drop}
 use Rattle.std.proofs.Common.{append_assoc, append-nil, sym, ap, subst, ◌∙◌, arith}
-use Rattle.std.proofs.lemmas.Grind.{common_steps}
-use Rattle.std.proofs.lemmas.List.{take-append-drop}
+use Rattle.std.proofs.{lemmas.Grind.common_steps, lemmas.List.take-append-drop}
 use Rattle.std.specs.Result.{is_err}
-use Rattle.mc_lane.specs.Sending.{IsPrefix}
 use Rattle.mc_lane.specs.Streams.{StreamState, no_counts, a_failed_write, counts_of_read, CanFail, Grows, Carries}
-use Rattle.mc_lane.specs.declared.stream.Broken.{Broken}
-use Rattle.mc_lane.specs.declared.stream.Counts.{Counts}
+use Rattle.mc_lane.specs.{Sending.IsPrefix, declared.stream.Broken.Broken, declared.stream.Counts.Counts}
 use Rattle.mc_lane.proofs.Carried.{Grows-twice}
 use Rattle.mc_relay.specs.Passing.{HasPassed, Passes, WritesAll}
 use Rattle.mc_relay.specs.declared.passing.Passed.TheVariants as passed

@@ -1,8 +1,7 @@
 -- What is handed on of one direction of a connection.
 use Rattle.std.specs.Prelude.{◌≡◌, ℕ, Option, Result, Ok, Err, List, []}
-use Rattle.mc_lane.specs.Sending.{IsPrefix}
 use Rattle.mc_lane.specs.Streams.{StreamState, no_counts, a_failed_write, Grows, Carries}
-use Rattle.mc_lane.specs.declared.stream.Broken.{Broken}
+use Rattle.mc_lane.specs.{Sending.IsPrefix, declared.stream.Broken.Broken}
 use Rattle.mc_relay.specs.declared.passing.Passed.{Passed}
 use Rattle.mc_relay.specs.declared.passing.Passed.TheVariants as passed
 

@@ -3,16 +3,11 @@ use Rattle.std.proofs.Common.{◌≡◌, ℕ, ◌-◌, ◌==◌, ◌||◌, Bool,
 use Rattle.std.proofs.Common.{refl, sym, ap, ◌∙◌, arith, if◌then◌else◌}
 use Rattle.std.specs.Option.{option_map}
 use Rattle.rand_pcg.specs.Lcg.{Lcg}
-use Rattle.mc_protocol.specs.declared.reply.Reply.{Reply}
-use Rattle.mc_protocol.specs.declared.request.Request.{Request}
-use Rattle.mc_protocol.specs.declared.request.Verb.{Verb}
+use Rattle.mc_protocol.specs.{declared.reply.Reply.Reply, declared.request.Request.Request, declared.request.Verb.Verb}
 use Rattle.mc_protocol.specs.declared.request.Verb.TheVariants as verb
 use Rattle.mc_settings.specs.declared.mix.Mix.{Mix}
-use Rattle.mc_rounds.specs.declared.wish.Wish.{Wish}
-use Rattle.mc_rounds.specs.Wishes.{wish_in}
-use Rattle.mc_rounds.specs.Draws.{generator_of}
 use Rattle.mc_rounds.specs.Clients.{Asking, number_of, request_as, request_of, asked_by, asking_of, shown_by, hearing_of, hearing}
-use Rattle.mc_rounds.specs.Laws.{asked_with, as_gets, SeedsTellRequests}
+use Rattle.mc_rounds.specs.{declared.wish.Wish.Wish, Wishes.wish_in, Draws.generator_of, Laws.asked_with, Laws.as_gets, Laws.SeedsTellRequests}
 
 -- a client that draws this next, and heard these numbers
 abbrev drawing : Mix → ℕ → Lcg → List (Option ℕ) → Option ℕ → Asking

@@ -3,17 +3,12 @@ use Rattle.std.proofs.Common.{◌≡◌, ℕ, zero, suc, ◌<◌, ◌≤◌, ◌
 use Rattle.std.proofs.Common.{refl, arith, if◌then◌else◌}
 use Rattle.std.proofs.lemmas.Bool.{le-leb}
 use Rattle.rand_pcg.specs.Lcg.{Lcg}
-use Rattle.mc_protocol.specs.Fields.{fields_of}
-use Rattle.mc_protocol.specs.Names.{is_key}
 use Rattle.mc_protocol.specs.declared.limits.TheConstants.{REPLY_BODY_LIMIT}
-use Rattle.mc_protocol.specs.declared.request.Request.{Request}
-use Rattle.mc_protocol.specs.declared.request.Verb.{Verb}
+use Rattle.mc_protocol.specs.{Fields.fields_of, Names.is_key, declared.request.Request.Request, declared.request.Verb.Verb}
 use Rattle.mc_protocol.specs.declared.request.Verb.TheVariants as verb
 use Rattle.mc_model.specs.History.{has_its_fields}
-use Rattle.mc_rounds.specs.Draws.{draw, rest}
-use Rattle.mc_rounds.specs.Wishes.{verb_in, fields_in, wish_in}
 use Rattle.mc_rounds.specs.Clients.{Asking, number_of, request_as, asking_of}
-use Rattle.mc_rounds.specs.Laws.{IsAsked, RequestsFit}
+use Rattle.mc_rounds.specs.{Draws.draw, Draws.rest, Wishes.verb_in, Wishes.fields_in, Wishes.wish_in, Laws.IsAsked, Laws.RequestsFit}
 use Rattle.mc_rounds.proofs.WishFacts.{draw-below, body-short}
 
 spelled : (key : List ℕ) (n : ℕ) (own : Bool) → n ≤ 8 → own ≡ true → is_key key ≡ true → (is_key key && nat_le n REPLY_BODY_LIMIT && own) ≡ true

@@ -1,12 +1,9 @@
 -- What is drawn keeps its bounds, and a field that the verb lacks is 0 or empty.
 use Rattle.std.proofs.Common.{ℕ, ◌<◌, ◌≤◌, ◌==◌, Bool, true, false, List, length, take, decimal}
 use Rattle.std.proofs.Common.{arith, if◌then◌else◌}
-use Rattle.std.proofs.lemmas.Fmt.{length-decimal-le}
-use Rattle.std.proofs.lemmas.List.{length-take}
-use Rattle.std.proofs.lemmas.Nat.{mod_below}
+use Rattle.std.proofs.{lemmas.Fmt.length-decimal-le, lemmas.List.length-take, lemmas.Nat.mod_below}
 use Rattle.rand_pcg.specs.Lcg.{Lcg}
-use Rattle.mc_rounds.specs.Draws.{draw, rest}
-use Rattle.mc_rounds.specs.Wishes.{letters_in, decimal_in, body_in}
+use Rattle.mc_rounds.specs.{Draws.draw, Draws.rest, Wishes.letters_in, Wishes.decimal_in, Wishes.body_in}
 
 pub draw-below : (n : ℕ) (g : Lcg) → 0 < n → draw n g < n
 unfolding draw

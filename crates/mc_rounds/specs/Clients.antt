@@ -1,16 +1,11 @@
 -- What a client asks in a round.
 use Rattle.std.specs.Prelude.{ℕ, ◌-◌, ◌==◌, ◌||◌, Option, Some, None, List, [], length, get_or, set, replicate, if◌then◌else◌}
 use Rattle.rand_pcg.specs.Lcg.{Lcg}
-use Rattle.mc_protocol.specs.declared.reply.Reply.{Reply}
+use Rattle.mc_protocol.specs.{declared.reply.Reply.Reply, declared.request.Request.Request, declared.request.Verb.Verb}
 use Rattle.mc_protocol.specs.declared.reply.Reply.TheVariants as reply
-use Rattle.mc_protocol.specs.declared.request.Request.{Request}
-use Rattle.mc_protocol.specs.declared.request.Verb.{Verb}
 use Rattle.mc_protocol.specs.declared.request.Verb.TheVariants as verb
 use Rattle.mc_settings.specs.declared.mix.Mix.{Mix}
-use Rattle.mc_rounds.specs.declared.plan.Plan.{Plan}
-use Rattle.mc_rounds.specs.declared.wish.Wish.{Wish}
-use Rattle.mc_rounds.specs.Draws.{generator_of}
-use Rattle.mc_rounds.specs.Wishes.{wish_in}
+use Rattle.mc_rounds.specs.{declared.plan.Plan.Plan, declared.wish.Wish.Wish, Draws.generator_of, Wishes.wish_in}
 
 -- a client between two requests: how many it has left, what it draws next, of each key the last number that it heard, and the index
 -- of the key that its last request read by a gets

@@ -1,14 +1,10 @@
 -- What holds of the requests of all rounds.
 use Rattle.std.specs.Prelude.{◌≡◌, ℕ, ◌<◌, ◌≤◌, true, Option, Some, List, [], ◌∷◌, length, get_or, map, IfSome}
 use Rattle.std.specs.Option.{option_map}
-use Rattle.mc_protocol.specs.Names.{is_key}
-use Rattle.mc_protocol.specs.declared.reply.Reply.{Reply}
-use Rattle.mc_protocol.specs.declared.request.Request.{Request}
-use Rattle.mc_protocol.specs.declared.request.Verb.{Verb}
+use Rattle.mc_protocol.specs.{Names.is_key, declared.reply.Reply.Reply, declared.request.Request.Request, declared.request.Verb.Verb}
 use Rattle.mc_protocol.specs.declared.request.Verb.TheVariants as verb
 use Rattle.mc_model.specs.History.{has_words}
-use Rattle.mc_rounds.specs.declared.plan.Plan.{Plan}
-use Rattle.mc_rounds.specs.Clients.{Asking, start_of, number_of, next_of, hearing}
+use Rattle.mc_rounds.specs.{declared.plan.Plan.Plan, Clients.Asking, Clients.start_of, Clients.number_of, Clients.next_of, Clients.hearing}
 
 -- ---- each request
 

@@ -3,8 +3,7 @@ use Rattle.std.specs.Prelude.{ℕ, ◌==◌, List, [], ◌∷◌, ◌++◌, map,
 use Rattle.rand_pcg.specs.Lcg.{Lcg}
 use Rattle.mc_protocol.specs.declared.request.Request.{Request}
 use Rattle.mc_protocol.specs.declared.request.Verb.TheVariants as verb
-use Rattle.mc_rounds.specs.declared.plan.Plan.{Plan}
-use Rattle.mc_rounds.specs.Draws.{draw, rest, generator_of}
+use Rattle.mc_rounds.specs.{declared.plan.Plan.Plan, Draws.draw, Draws.rest, Draws.generator_of}
 
 abbrev pub delete_of : List ℕ → Request
 delete_of key = record { verb = verb.Delete; key = key; flags = 0; body = []; number = 0 }

@@ -1,17 +1,13 @@
 -- What a client draws of its next request.
 use Rattle.std.specs.Prelude.{ℕ, ◌-◌, ◌==◌, List, [], ◌∷◌, length, take, drop, get_or, codes, decimal, if◌then◌else◌}
 use Rattle.rand_pcg.specs.Lcg.{Lcg}
-use Rattle.mc_protocol.specs.Fields.{fields_of}
-use Rattle.mc_protocol.specs.Words.{all_verbs}
-use Rattle.mc_protocol.specs.declared.request.Fields.{Fields}
-use Rattle.mc_protocol.specs.declared.request.Fields.TheVariants as fields
-use Rattle.mc_protocol.specs.declared.request.Verb.{Verb}
 use Rattle.mc_protocol.specs.declared.request.Verb.TheVariants.{Set, Add, Replace, Append, Prepend, Cas}
 use Rattle.mc_protocol.specs.declared.request.Verb.TheVariants.{Get, Gets, Incr, Decr, Delete, Touch}
+use Rattle.mc_protocol.specs.{Fields.fields_of, Words.all_verbs, declared.request.Fields.Fields, declared.request.Verb.Verb}
+use Rattle.mc_protocol.specs.declared.request.Fields.TheVariants as fields
 use Rattle.mc_settings.specs.declared.mix.Mix.{Mix}
 use Rattle.mc_settings.specs.declared.mix.Mix.TheVariants as mix
-use Rattle.mc_rounds.specs.declared.wish.Wish.{Wish}
-use Rattle.mc_rounds.specs.Draws.{draw, rest}
+use Rattle.mc_rounds.specs.{declared.wish.Wish.Wish, Draws.draw, Draws.rest}
 
 -- the verbs of a mix
 abbrev pub verbs_of : Mix → List Verb

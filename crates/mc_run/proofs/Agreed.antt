@@ -1,16 +1,12 @@
 -- Agreement, by what a world that its notes lead to holds.
 use Rattle.std.specs.Prelude.{◌≡◌, ◌↔◌, true, Bool, Result, Ok, Err, IfOk, List}
 use Rattle.std.proofs.Common.{refl, sym, ap, subst, ◌∙◌}
-use Rattle.mc_protocol.specs.Sections.{section_of}
-use Rattle.mc_protocol.specs.declared.actor.Actor.{Actor}
+use Rattle.mc_protocol.specs.{Sections.section_of, declared.actor.Actor.Actor, declared.sections.Sections.Sections}
 use Rattle.mc_protocol.specs.declared.actor.Actor.TheVariants as actor
-use Rattle.mc_protocol.specs.declared.sections.Sections.{Sections}
 use Rattle.mc_code.specs.Code.{Code}
 use Rattle.mc_model.specs.declared.sent.Sent.{Sent}
-use Rattle.mc_core.specs.Held.{Held, IsHeldBy}
-use Rattle.mc_core.specs.Histories.{sections_of, sent_in}
 use Rattle.mc_core.specs.Worlds.{World, log_of, IsEnding}
-use Rattle.mc_core.specs.declared.ending.Ending.{Ending}
+use Rattle.mc_core.specs.{Held.Held, Held.IsHeldBy, Histories.sections_of, Histories.sent_in, declared.ending.Ending.Ending}
 use Rattle.mc_core.specs.declared.ending.Ending.TheVariants as ending
 use Rattle.mc_run.specs.Agreement.{LaneRecords, Agree, AgreesIn}
 use Rattle.mc_recorded.specs.Recorded.{IsRecordedBy}

@@ -1,8 +1,7 @@
 -- Where a section of a run has not begun, P failed.
 use Rattle.std.proofs.Common.{◌≡◌, Option, Some, None, refl, sym}
-use Rattle.mc_protocol.specs.declared.actor.Actor.{Actor}
+use Rattle.mc_protocol.specs.{declared.actor.Actor.Actor, declared.fault.Fault.Fault}
 use Rattle.mc_protocol.specs.declared.actor.Actor.TheVariants as actor
-use Rattle.mc_protocol.specs.declared.fault.Fault.{Fault}
 use Rattle.mc_code.specs.Code.{Code}
 use Rattle.mc_core.specs.declared.ending.Ending.TheVariants as ending
 use Rattle.mc_core.specs.Worlds.{World, IsDone, IsEnding, log_of}

@@ -1,16 +1,11 @@
 -- Agreement: what was noted of three sections is what the lanes that carried their calls recorded.
 use Rattle.std.specs.Prelude.{◌≡◌, ◌≢◌, Option, Some, None, List}
-use Rattle.mc_protocol.specs.Sections.{section_of}
-use Rattle.mc_protocol.specs.declared.actor.Actor.{Actor}
-use Rattle.mc_protocol.specs.declared.sections.Sections.{Sections}
+use Rattle.mc_protocol.specs.{Sections.section_of, declared.actor.Actor.Actor, declared.sections.Sections.Sections}
 use Rattle.mc_code.specs.Code.{Code}
-use Rattle.mc_model.specs.Notes.{History}
-use Rattle.mc_model.specs.declared.sent.Sent.{Sent}
+use Rattle.mc_model.specs.{Notes.History, declared.sent.Sent.Sent}
 use Rattle.mc_core.specs.declared.ending.Ending.TheVariants as ending
-use Rattle.mc_core.specs.Held.{Held, IsHeldBy}
-use Rattle.mc_core.specs.Histories.{sent_in, history_of}
-use Rattle.mc_core.specs.Steps.{IsWorldOf}
 use Rattle.mc_core.specs.Worlds.{World, log_of, IsEnding}
+use Rattle.mc_core.specs.{Held.Held, Held.IsHeldBy, Histories.sent_in, Histories.history_of, Steps.IsWorldOf}
 use Rattle.mc_lane.specs.Lanes.{LaneRecord}
 use Rattle.mc_recorded.specs.Recorded.{IsRecordedBy}
 

@@ -1,5 +1,5 @@
 -- What contracts see of a book.
-use Rattle.mc_verify.specs.Checked.{Checked}
+use Rattle.mc_sound.specs.Checked.{Checked}
 use Rattle.mc_core.specs.Held.{Held}
 
 -- the code that it borrows, and the world in which its events are noted

@@ -2,13 +2,10 @@
 use Rattle.std.specs.Prelude.{◌≡◌, ℕ, List}
 use Rattle.mc_protocol.specs.declared.actor.Actor.{Actor}
 use Rattle.mc_code.specs.Code.{Code}
-use Rattle.mc_core.specs.Histories.{history_of}
-use Rattle.mc_core.specs.Logs.{events_in}
 use Rattle.mc_core.specs.Safety.{RanRight, AreAdmitted, IsWithinBudget, IsSilentAfterFault}
-use Rattle.mc_core.specs.Steps.{IsFold}
 use Rattle.mc_core.specs.Worlds.{World, Noted, new_world, log_of, events_of}
-use Rattle.mc_explain.specs.Verdicts.{IsTrueOf}
-use Rattle.mc_explain.specs.declared.verdict.Verdict.{Verdict}
+use Rattle.mc_core.specs.{Histories.history_of, Logs.events_in, Steps.IsFold}
+use Rattle.mc_explain.specs.{Verdicts.IsTrueOf, declared.verdict.Verdict.Verdict}
 
 -- these events lead to this world, `skipped` of them are refused, and this is the verdict on the world's history
 pub record IsTrial (c : Code) (events : List Noted) (w : World) (skipped : ℕ) (v : Verdict) : Type 0 where

@@ -11,6 +11,7 @@ pub use Rattle.mc_recorded.specs.Recorded
 pub mod Agreement
 pub mod Books
 pub mod Headline
+pub mod Holders
 pub mod Judged
 pub mod Laws
 pub mod Running

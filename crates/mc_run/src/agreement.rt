@@ -9,7 +9,7 @@ use mc_lane::Stream;
 use mc_model::History;
 use mc_protocol::{Actor, OutOfMemory};
 use mc_recorded::is_recorded;
-use mc_verify::Checked;
+use mc_sound::Checked;
 use std::alloc::Global;
 
 /// Whether the world is the one that its notes lead to in this code, no section goes on, and each lane recorded what was noted of

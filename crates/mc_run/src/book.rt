@@ -1,22 +1,24 @@
 //! The book of a run: what its threads note, one event after the other.
+ghost use Rattle.std.specs.Arc.{arc_value};
 ghost use Rattle.std.specs.Prelude.{◌≡◌, ◌↔◌, ◌<◌, true, false, Some, None, length, OnOk, OnErr, IfOk, IfErr, IfSome};
-ghost use Rattle.mc_core.specs.Held.{IsHeldBy};
-ghost use Rattle.mc_core.specs.Steps.{IsStep, IsRefused, MayBegin};
-ghost use Rattle.mc_core.specs.Worlds.{new_world};
+ghost use Rattle.mc_core.specs.{Held.IsHeldBy, Steps.IsStep, Steps.IsRefused, Steps.MayBegin, Worlds.new_world};
+ghost use Rattle.mc_run.specs.Holders.{held_by};
 
-use mc_code::{Call, Code};
+use crate::holder::Holder;
+use mc_code::Call;
 use mc_core::{StepRefusal, World};
 use mc_history::Event;
 use mc_protocol::{Actor, OutOfMemory};
-use mc_verify::Checked;
+use mc_sound::Checked;
 use std::alloc::Global;
 use std::marker::Model;
+use std::sync::Arc;
 
-/// The world of a run, and the sound code that it is a world of, which the book borrows. Threads share it under a lock, which
-/// then keeps that the world is the fold of its notes. Contracts see the code and the world.
+/// The world of a run, and the sound code that it is a world of, which the book borrows or shares. Threads share the book under a lock,
+/// which then keeps that the world is the fold of its notes. Contracts see the code and the world.
 #[derive(Debug, Drop)]
 pub struct Book<'c> {
-    checked: &'c Checked,
+    checked: Holder<'c>,
     world: World,
 }
 
@@ -26,10 +28,11 @@ impl<'c> Model for Book<'c> {
     ghost Value = { BookRecord };
 
     ghost use Rattle.mc_core.specs.Held.{IsHeldBy};
+    ghost use Rattle.mc_run.specs.Holders.{held_by};
 
-    ghost view = { λ b. record { checked = b.checked.now; world = b.world } };
+    ghost view = { λ b. record { checked = held_by b.checked; world = b.world } };
 
-    ghost invariant = { λ b. IsHeldBy b.checked.now.code b.world };
+    ghost invariant = { λ b. IsHeldBy (held_by b.checked).code b.world };
 }
 
 impl<'c> Book<'c> {
@@ -42,9 +45,22 @@ impl<'c> Book<'c> {
         ensures checked { IfOk result (λ book. book.checked ≡ checked.now) }
         ensures new { IfOk result (λ book. book.world.world ≡ new_world) }
     {
+        let world = World::start(alloc, checked)?;
         Ok(Book {
-            checked,
-            world: World::start(alloc, checked)?,
+            checked: Holder::Lent(checked),
+            world,
+        })
+    }
+
+    /// The same of code that the book shares.
+    pub(crate) fn sharing(alloc: Global, checked: Arc<Checked, Global>) -> Result<Self, OutOfMemory>
+        ensures checked { IfOk result (λ book. book.checked ≡ arc_value checked) }
+        ensures new { IfOk result (λ book. book.world.world ≡ new_world) }
+    {
+        let world = World::start(alloc, &checked)?;
+        Ok(Book {
+            checked: Holder::Shared(checked),
+            world,
         })
     }
 
@@ -61,20 +77,26 @@ impl<'c> Book<'c> {
         ensures err { OnErr result (self.new ≡ self.old) }
         ensures checked { self.new.checked ≡ self.old.checked }
     {
-        self.world.step(self.checked, actor, event)
+        self.world.step(self.checked.checked(), actor, event)
     }
 
-    /// The code with the call that the section may begin, or nothing where it may begin none: it is over, it waits for a reply, or
-    /// it is a branch that doesn't begin yet.
-    pub(crate) fn upcoming(&self, actor: Actor) -> Option<(&'c Code, Call)>
-        ensures code { IfSome result (λ upcoming. upcoming.0.now ≡ self.now.checked.code) }
-        ensures call { IfSome result (λ upcoming. MayBegin self.now.checked.code self.now.world.world actor upcoming.1) }
+    /// The call that the section may begin, or nothing where it may begin none: it is over, it waits for a reply, or it is a branch
+    /// that doesn't begin yet.
+    pub(crate) fn upcoming(&self, actor: Actor) -> Option<Call>
+        ensures call { IfSome result (λ call. MayBegin self.now.checked.code self.now.world.world actor call) }
         ensures none { result ≡ None
             → (r : StepRefusal) × IsRefused self.now.checked.code self.now.world.world actor Event.Begin r }
-        ensures template { IfSome result (λ upcoming. upcoming.1.template < length upcoming.0.now.templates) }
+        ensures template { IfSome result (λ call. call.template < length self.now.checked.code.templates) }
     {
-        let call = self.world.upcoming(self.checked, actor)?;
-        Some((self.checked.code(), call))
+        let call = self.world.upcoming(self.checked.checked(), actor)?;
+        Some(call)
+    }
+
+    /// The code, borrowed or shared once more, unless all that could be counted share it.
+    pub(crate) fn held(&self) -> Option<Holder<'c>>
+        ensures { IfSome result (λ held. held_by held ≡ self.now.checked) }
+    {
+        self.checked.again()
     }
 
     /// Notes that this call begins, where the section may begin it, and answers whether it may. Otherwise nothing changes.
@@ -92,14 +114,14 @@ impl<'c> Book<'c> {
     fn may_begin(&self, actor: Actor, call: Call) -> bool
         ensures { (result ≡ true) ↔ MayBegin self.now.checked.code self.now.world.world actor call }
     {
-        is_that_call(self.world.upcoming(self.checked, actor), call)
+        is_that_call(self.world.upcoming(self.checked.checked(), actor), call)
     }
 
-    /// The code that it borrows.
-    pub fn checked(&self) -> &'c Checked
+    /// The code that it borrows or shares.
+    pub fn checked(&self) -> &Checked
         ensures { result.now ≡ self.now.checked }
     {
-        self.checked
+        self.checked.checked()
     }
 
     /// The world of what was noted.

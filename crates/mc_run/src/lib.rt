@@ -11,9 +11,12 @@
 #![tactic(auto)]
 
 mod agreement;
+mod beside;
 mod book;
 mod carrying;
+mod desk;
 mod gate;
+mod holder;
 mod lanes;
 mod laws;
 mod manner;
@@ -25,7 +28,9 @@ mod section;
 mod trials;
 
 pub use agreement::agrees;
+pub use beside::play_beside;
 pub use book::Book;
+pub use desk::{Desk, Second};
 pub use gate::{FreeGate, Gate};
 pub use lanes::Lanes;
 pub use laws::branches_begin_unless_p_fails;

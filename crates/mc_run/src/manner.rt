@@ -34,7 +34,7 @@ pub struct Late {
 pub struct Meet {
     /// Before which requests they wait for each other.
     pub manner: Manner,
-    /// The branch that runs on a new thread. The other one runs on the thread of the caller.
+    /// The branch that runs on a thread of its own. The other one runs on the thread of the caller.
     pub apart: Branch,
     /// The branch that is late, if one is. Where they don't meet, none is.
     pub late: Option<Late>,

@@ -17,7 +17,7 @@ const READY: u64 = 1;
 const AWAKE: u64 = 2;
 
 /// How long a look takes, about.
-const NANOSECONDS_OF_TURN: u32 = 7;
+pub(crate) const NANOSECONDS_OF_TURN: u32 = 7;
 
 /// A branch that is late by more than this sleeps: a sleep of less would take that long.
 const SPUN_NANOSECONDS: u32 = 100_000;

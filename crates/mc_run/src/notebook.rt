@@ -1,10 +1,12 @@
 //! What the sections of a run may note in its book: that a call begins which was made ready, and what came of it.
 ghost use Rattle.std.specs.Prelude.{◌≡◌, ◌≢◌, ◌<◌, true, false, length, IfSome};
 ghost use Rattle.mc_core.specs.Steps.{IsStep, MayBegin};
+ghost use Rattle.mc_run.specs.Holders.{held_by};
 
 use crate::Book;
 use crate::carrying::Prepared;
-use mc_code::{Call, Code};
+use crate::holder::Holder;
+use mc_code::Call;
 use mc_core::World;
 use mc_history::Event;
 use mc_protocol::Actor;
@@ -23,11 +25,13 @@ impl<'c> Notebook<'c> {
         Notebook { book }
     }
 
-    /// The code with the call that the section may begin, or nothing where it may begin none.
-    pub(crate) fn upcoming(&self, actor: Actor) -> Option<(&'c Code, Call)>
-        ensures template { IfSome result (λ upcoming. upcoming.1.template < length upcoming.0.now.templates) }
+    /// The code with the call that the section may begin, or nothing where it may begin none, or the code can't be held once more.
+    pub(crate) fn upcoming(&self, actor: Actor) -> Option<(Holder<'c>, Call)>
+        ensures template { IfSome result (λ upcoming. upcoming.1.template < length (held_by upcoming.0).code.templates) }
     {
-        self.book.upcoming(actor)
+        let call = self.book.upcoming(actor)?;
+        let held = self.book.held()?;
+        Some((held, call))
     }
 
     /// Notes that this call begins, where the section may begin it, and answers whether it may. Otherwise nothing changes.
@@ -45,6 +49,11 @@ impl<'c> Notebook<'c> {
         requires { event ≢ Event.Begin }
     {
         self.book.note(actor, event).is_ok()
+    }
+
+    /// The world of what was noted so far.
+    pub(crate) fn world(&self) -> &World {
+        self.book.world()
     }
 
     /// The world of what was noted.

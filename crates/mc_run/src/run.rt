@@ -1,11 +1,8 @@
 //! Runs: what came of a script that ran over three lanes, and the verdict on it.
 ghost use Rattle.std.specs.Prelude.{◌≡◌, IfOk};
-ghost use Rattle.mc_core.specs.Held.{IsHeldBy};
-ghost use Rattle.mc_core.specs.Histories.{history_of};
+ghost use Rattle.mc_core.specs.{Held.IsHeldBy, Histories.history_of};
 ghost use Rattle.mc_explain.specs.Verdicts.{IsStated, IsWithin};
-ghost use Rattle.mc_run.specs.Headline.{IsTrial};
-ghost use Rattle.mc_run.specs.Judged.{IsJudged};
-ghost use Rattle.mc_run.specs.Running.{AllGrew, AreNew};
+ghost use Rattle.mc_run.specs.{Headline.IsTrial, Judged.IsJudged, Running.AllGrew, Running.AreNew};
 
 use crate::running::run_agreed;
 use crate::{Gate, Lanes, Meet};
@@ -15,7 +12,7 @@ use mc_explain::{Verdict, judge};
 use mc_lane::Stream;
 use mc_model::History;
 use mc_protocol::OutOfMemory;
-use mc_verify::Checked;
+use mc_sound::Checked;
 use std::alloc::{AllocError, Global};
 use std::sync::Wait;
 use std::thread::Threads;
@@ -84,7 +81,7 @@ impl<S: Stream> Run<S> {
 }
 
 /// The verdict on the history of a world, and the number of turns that the search for an explanation used.
-fn judge_history(
+pub(crate) fn judge_history(
     alloc: Global,
     checked: &Checked,
     world: &World,

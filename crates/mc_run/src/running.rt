@@ -1,9 +1,7 @@
 //! The threads of a run.
 ghost use Rattle.std.specs.Prelude.{◌≡◌, IfOk, IfSome};
-ghost use Rattle.mc_core.specs.Held.{IsHeldBy};
-ghost use Rattle.mc_core.specs.Histories.{history_of};
-ghost use Rattle.mc_run.specs.Agreement.{Agree};
-ghost use Rattle.mc_run.specs.Running.{AllGrew, AreNew, Grew};
+ghost use Rattle.mc_core.specs.{Held.IsHeldBy, Histories.history_of};
+ghost use Rattle.mc_run.specs.{Agreement.Agree, Running.AllGrew, Running.AreNew, Running.Grew};
 
 use crate::agreement::find_agreed;
 use crate::meeting::Meeting;
@@ -14,7 +12,7 @@ use core::thread::Stack;
 use mc_lane::{Lane, Stream};
 use mc_model::History;
 use mc_protocol::Actor;
-use mc_verify::Checked;
+use mc_sound::Checked;
 use std::alloc::Global;
 use std::snapshot::Snapshot;
 use std::sync::{Mutex, Wait};
@@ -117,12 +115,10 @@ fn run_branches<S: Stream + Send, G: Gate, R: Threads + Wait + Sync>(
 ) -> Option<(Lane<S>, Lane<S>)>
     ensures { IfSome result (λ grown. Grew lanes.0 grown.0 × Grew lanes.1 grown.1) }
 {
-    let (a, b) = lanes;
-    if !(has_calls(rt, book, Actor::A) && has_calls(rt, book, Actor::B)) {
-        let a = run_section(rt, alloc, book, gate, Part::new(Actor::A, a));
-        let b = run_section(rt, alloc, book, gate, Part::new(Actor::B, b));
-        return Some((a, b));
+    if !both_have_calls(rt, book) {
+        return Some(run_in_turn(rt, alloc, book, gate, lanes));
     }
+    let (a, b) = lanes;
     let meeting = Meeting::new(meet);
     let a = Part::new(Actor::A, a).with_seat(meeting.seat(Branch::A));
     let b = Part::new(Actor::B, b).with_seat(meeting.seat(Branch::B));
@@ -135,9 +131,26 @@ fn run_branches<S: Stream + Send, G: Gate, R: Threads + Wait + Sync>(
     }
 }
 
-/// Whether the section has a call to make.
-fn has_calls<R: Wait>(rt: &R, book: &Mutex<Notebook<'_>>, actor: Actor) -> bool {
-    book.lock(rt).upcoming(actor).is_some()
+/// Whether both branches have a call to make.
+pub(crate) fn both_have_calls<R: Wait>(rt: &R, book: &Mutex<Notebook<'_>>) -> bool {
+    let book = book.lock(rt);
+    book.upcoming(Actor::A).is_some() && book.upcoming(Actor::B).is_some()
+}
+
+/// Runs one branch after the other on this thread, and answers their lanes. They don't wait for each other.
+pub(crate) fn run_in_turn<S: Stream, G: Gate, R: Wait>(
+    rt: &R,
+    alloc: Global,
+    book: &Mutex<Notebook<'_>>,
+    gate: &G,
+    lanes: (Lane<S>, Lane<S>),
+) -> (Lane<S>, Lane<S>)
+    ensures { Grew lanes.0 result.0 × Grew lanes.1 result.1 }
+{
+    let (a, b) = lanes;
+    let a = run_section(rt, alloc, book, gate, Part::new(Actor::A, a));
+    let b = run_section(rt, alloc, book, gate, Part::new(Actor::B, b));
+    (a, b)
 }
 
 /// Runs both branches, `apart` on a thread of its own and `here` on this one, and answers their lanes in this order; or nothing

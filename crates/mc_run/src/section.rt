@@ -94,8 +94,8 @@ fn prepare_next<S: Stream, R: Wait>(
     ensures { lane.new ≡ lane.old }
 {
     let upcoming = book.lock(rt).upcoming(actor);
-    let (code, call) = upcoming?;
-    match prepare(alloc, code, call, lane) {
+    let (held, call) = upcoming?;
+    match prepare(alloc, held.checked().code(), call, lane) {
         Ok(prepared) => Some(prepared),
         Err(_) => {
             book.lock(rt).note_result(actor, Event::Fail(Fault::Memory));

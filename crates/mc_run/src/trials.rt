@@ -1,7 +1,6 @@
 //! A list of events, from the world in which nothing happened to the verdict.
 ghost use Rattle.std.specs.Prelude.{IfOk};
-ghost use Rattle.mc_core.specs.Held.{IsHeldBy};
-ghost use Rattle.mc_core.specs.Histories.{history_of};
+ghost use Rattle.mc_core.specs.{Held.IsHeldBy, Histories.history_of};
 ghost use Rattle.mc_explain.specs.Verdicts.{IsStated};
 ghost use Rattle.mc_run.specs.Headline.{IsTrial};
 
@@ -9,7 +8,7 @@ use mc_core::{World, drive};
 use mc_explain::{Verdict, judge};
 use mc_history::Event;
 use mc_protocol::{Actor, OutOfMemory};
-use mc_verify::Checked;
+use mc_sound::Checked;
 use std::alloc::Global;
 
 /// The world after these events, how many of them it refused, and the verdict on its history. Refused events are skipped; the

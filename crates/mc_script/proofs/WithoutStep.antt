@@ -1,20 +1,15 @@
 -- A script less a step is a script.
 use Rattle.std.proofs.Common.{◌≡◌, ℕ, ◌+◌, ◌<◌, ◌≤◌, zero, suc, Some, List, [], ◌∷◌, length, map, slice_get, refl, ap, subst, ◌∙◌, arith, ◌==◌, nat_lt}
 use Rattle.std.proofs.Common.{nat_le, cond, ◌++◌, codes, sym, append_assoc, length-append}
+use Rattle.std.proofs.{lemmas.Bool.Decides.nat_tests, lemmas.List.Edits.length-remove, lemmas.Bool.le-ltb, lemmas.Bool.ne_eqb, lemmas.List.Sums.sum_by-cons}
 use Rattle.std.specs.List.{remove, count_by}
-use Rattle.std.proofs.lemmas.Bool.Decides.{nat_tests}
-use Rattle.std.proofs.lemmas.List.Edits.{length-remove}
 use Rattle.mc_script.specs.Values.{Actor, Verb, Class, Sections, Label, Step, Word, Words}
-use Rattle.mc_script.specs.Values.actor
-use Rattle.mc_script.specs.Values.step
-use Rattle.mc_protocol.specs.Names.{are_distinct}
-use Rattle.mc_protocol.specs.Words.{class_index, verb_word}
-use Rattle.mc_script.specs.Script.{Names, Section, Script, section_of}
-use Rattle.mc_script.specs.WellFormed.{label_names}
 use Rattle.mc_script.specs.WellFormed.{IsAfter, AreJumps, IsStep, AreSteps, AreLabels, IsSection, IsScript}
 use Rattle.mc_script.specs.WithoutStep.{place_without, label_without, section_without, sections_without, without_step}
-use Rattle.std.proofs.lemmas.Bool.{le-ltb, ne_eqb}
-use Rattle.std.proofs.lemmas.List.Sums.{sum_by-cons}
+use Rattle.mc_script.specs.{Script.Names, Script.Section, Script.Script, Script.section_of, WellFormed.label_names}
+use Rattle.mc_script.specs.Values.actor
+use Rattle.mc_script.specs.Values.step
+use Rattle.mc_protocol.specs.{Names.are_distinct, Words.class_index, Words.verb_word}
 
 -- ---- labels
 

@@ -2,10 +2,9 @@
 use Rattle.std.specs.Prelude.{◌≡◌, ℕ, ◌==◌, nat_le, Bool, true, not, ◌&&◌, List, length, max}
 use Rattle.std.specs.List.{list_all}
 use Rattle.mc_script.specs.Values.{Actor, Sections, KEYS_LIMIT, KEY_BYTES_LIMIT, Word, FLAGS_LIMIT, VARIABLES_LIMIT, NAME_BYTES_LIMIT}
-use Rattle.mc_script.specs.Values.{Budget, Label, Step, Version}
+use Rattle.mc_script.specs.{Values.Budget, Values.Label, Values.Step, Values.Version, Versions.least_version}
 use Rattle.mc_protocol.specs.Names.{is_name, are_distinct}
 use Rattle.mc_protocol.specs.Sections as sections
-use Rattle.mc_script.specs.Versions.{least_version}
 
 -- the keys, the flags and the variables, each by its name
 pub record Names : Type 0 where

@@ -1,12 +1,10 @@
 -- Templates: which are well formed. `keys`, `flags` and `vars` are how many of each are declared.
 use Rattle.std.specs.Prelude.{◌≡◌, ℕ, ◌<◌, ◌==◌, nat_le, nat_lt, Bool, true, false, ◌&&◌, List, length, ◌^◌}
 use Rattle.std.specs.Int.Bits.{bit_and}
-use Rattle.mc_protocol.specs.Fields.{fields_of}
-use Rattle.mc_script.specs.Values.{Fields, Argument, Template}
+use Rattle.mc_protocol.specs.{Fields.fields_of, Decimals.MAX_32, Decimals.MAX_64}
+use Rattle.mc_script.specs.{Values.Fields, Values.Argument, Values.Template, ScriptWords.is_body}
 use Rattle.mc_script.specs.Values.fields
 use Rattle.mc_script.specs.Values.argument
-use Rattle.mc_protocol.specs.Decimals.{MAX_32, MAX_64}
-use Rattle.mc_script.specs.ScriptWords.{is_body}
 
 -- ---- the words after the key
 

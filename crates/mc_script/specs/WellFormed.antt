@@ -3,10 +3,10 @@ use Rattle.std.specs.Prelude.{◌≡◌, ℕ, ◌+◌, ◌<◌, ◌≤◌, Bool,
 use Rattle.std.specs.List.{list_any}
 use Rattle.mc_protocol.specs.{Legal.is_legal, Names.are_distinct, Words.class_index}
 use Rattle.mc_script.specs.Values.{Verb, Class, Word, REQUESTS_LIMIT, REQUEST_BYTES_LIMIT, STEPS_LIMIT, Label, Step}
+use Rattle.mc_script.specs.Script.{Names, Section, Script, AreDeclared}
 use Rattle.mc_script.specs.Values.class
 use Rattle.mc_protocol.specs.declared.request.Verb.TheVariants as verb
 use Rattle.mc_script.specs.Values.step
-use Rattle.mc_script.specs.Script.{Names, Section, Script, AreDeclared}
 use Rattle.mc_script.specs.{ScriptWords.is_label_name, Templates.IsTemplate}
 
 -- the label with this index stands after the step at this place

@@ -2,9 +2,8 @@
 use Rattle.std.specs.Prelude.{◌≡◌, ℕ, ◌+◌, ◌-◌, ◌<◌, nat_le, nat_lt, Some, List, ◌∷◌, ◌++◌, map, length, slice_get}
 use Rattle.std.specs.Prelude.{count_by, remove, if◌then◌else◌}
 use Rattle.mc_script.specs.Values.{Actor, Words, Sections, Label, Step}
+use Rattle.mc_script.specs.{Script.Names, Script.Section, Script.Script, Script.section_of, WellFormed.IsScript}
 use Rattle.mc_script.specs.Values.actor
-use Rattle.mc_script.specs.Script.{Names, Section, Script, section_of}
-use Rattle.mc_script.specs.WellFormed.{IsScript}
 
 -- where a label at `place` stands without the step at place k: one place earlier, where it stood after the step
 abbrev pub place_without : ℕ → ℕ → ℕ

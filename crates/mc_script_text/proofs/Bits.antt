@@ -1,10 +1,8 @@
 -- The test of one bit.
 use Rattle.std.proofs.Common.{◌≡◌, ℕ, zero, suc, ◌<◌, ◌==◌, ◌*◌, ◌%◌, ◌^◌, true, not, nat_eq, bit_and, ap, ◌∙◌, arith}
-use Rattle.std.specs.Int.{bit_at}
-use Rattle.std.proofs.lemmas.Bool.{ne_eqb, not_from_false}
-use Rattle.std.proofs.lemmas.Nat.{pow_below, pow_pos}
 use Rattle.std.proofs.lemmas.Nat.Bits.{and_pow, bit_at-lt}
-use Rattle.std.proofs.Math.Nat.{mod-eq_of_lt}
+use Rattle.std.proofs.{lemmas.Bool.ne_eqb, lemmas.Bool.not_from_false, lemmas.Nat.pow_below, lemmas.Nat.pow_pos, Math.Nat.mod-eq_of_lt}
+use Rattle.std.specs.Int.{bit_at}
 
 above : (power : ℕ) → 0 < power → not (nat_eq power 0) ≡ true
 above power h = not_from_false (nat_eq power 0) (ne_eqb power 0 (λ e. absurd (omega (arith, e, h))))

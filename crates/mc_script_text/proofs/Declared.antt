@@ -1,16 +1,13 @@
 -- Names that were read may be declared.
 use Rattle.std.proofs.Common.{◌≡◌, ℕ, ◌≤◌, ◌==◌, nat_le, Bool, cond, true, false, not, Some, List, [], ◌∷◌, length, drop, codes, refl, ap, subst, arith}
-use Rattle.std.specs.List.{list_all}
 use Rattle.std.proofs.lemmas.Bool.{and_parts, leb-true, le-leb}
-use Rattle.mc_protocol.specs.Names.{is_name, are_distinct}
+use Rattle.std.specs.List.{list_all}
+use Rattle.mc_protocol.specs.{Names.is_name, Names.are_distinct, Lines.begins_with}
 use Rattle.mc_script_text.specs.Values.{KEYS_LIMIT, KEY_BYTES_LIMIT, Word, Words, NAME_BYTES_LIMIT, FLAGS_LIMIT, STEPS_LIMIT, Version}
-use Rattle.mc_script_text.specs.Values.version
-use Rattle.mc_protocol.specs.Lines.{begins_with}
-use Rattle.mc_script.specs.Versions.{flags_limit, steps_limit, has_room, least_version}
-use Rattle.mc_script.specs.Script.{may_be_declared}
 use Rattle.mc_script_text.specs.Reading.{names_in, keys_in, line_in, optional_in}
-use Rattle.mc_script_text.proofs.Lists.{three, some-first}
-use Rattle.mc_script_text.proofs.Outcomes.{then-some, cond-some, some-same, only-then}
+use Rattle.mc_script_text.specs.Values.version
+use Rattle.mc_script.specs.{Versions.flags_limit, Versions.steps_limit, Versions.has_room, Versions.least_version, Script.may_be_declared}
+use Rattle.mc_script_text.proofs.{Lists.three, Lists.some-first, Outcomes.then-some, Outcomes.cond-some, Outcomes.some-same, Outcomes.only-then}
 
 pub names-declared : (limit bytes : ℕ) (words names : List Word) → names_in limit bytes words ≡ Some names
     → (not (length names == 0) ≡ true) × (may_be_declared limit bytes names ≡ true) × (words ≡ names)

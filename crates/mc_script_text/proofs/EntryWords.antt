@@ -1,30 +1,20 @@
 -- A line of a section is read exactly where it spells an entry.
 use Rattle.std.proofs.Common.{◌≡◌, ℕ, ◌+◌, ◌-◌, ◌<◌, ◌≤◌, ◌==◌, true, false, Option, Some, None, List, [], ◌∷◌, ◌++◌, length}
 use Rattle.std.proofs.Common.{take, drop, get_or, codes, refl, sym, ap, subst, ◌∙◌, arith, drop-cons, length-append, suc}
-use Rattle.std.specs.List.{list_any}
-use Rattle.std.specs.Str.{bytes_eq}
-use Rattle.std.proofs.lemmas.Bool.{eqb-true}
-use Rattle.std.proofs.Math.Seq.{take-append_seam}
-use Rattle.std.proofs.lemmas.List.{take-append-drop, drop_all}
-use Rattle.std.proofs.lemmas.Bool.Decides.{nat_tests}
-use Rattle.mc_protocol.specs.Fields.{fields_of}
-use Rattle.mc_protocol.specs.Words.{verb_word, verb_of}
+use Rattle.std.proofs.{lemmas.Bool.eqb-true, Math.Seq.take-append_seam, lemmas.List.take-append-drop, lemmas.List.drop_all, lemmas.Bool.Decides.nat_tests}
+use Rattle.std.specs.{List.list_any, Str.bytes_eq}
+use Rattle.mc_protocol.specs.{Fields.fields_of, Words.verb_word, Words.verb_of, declared.request.Verb.TheVariants.Set, Names.index_of}
 use Rattle.mc_script_text.specs.Values.{Verb, Word, Words, Entry, Mark, Parts, Keyword, Template}
-use Rattle.mc_script_text.specs.Values.entry
-use Rattle.mc_script_text.specs.Values.keyword
-use Rattle.mc_protocol.specs.declared.request.Verb.TheVariants.{Set}
-use Rattle.mc_protocol.specs.Names.{index_of}
-use Rattle.mc_protocol.proofs.OfWords.{word-of_verb}
-use Rattle.mc_script.specs.Script.{Names}
-use Rattle.mc_script.specs.ScriptWords.{is_label_name, label_word}
 use Rattle.mc_script_text.specs.SectionText.{SpellsEntry, SpellsRequest}
-use Rattle.mc_script.specs.Chains.{◌>>=◌}
 use Rattle.mc_script_text.specs.Reading.{entry_in, label_of, line_entry, keyword_of, step_words, before_colon}
 use Rattle.mc_script_text.specs.Reading.{request_in, fields_in, field_count, marks_in, binds, template_of}
-use Rattle.mc_script_text.proofs.Lists.{bytes-same}
+use Rattle.mc_script_text.specs.Values.entry
+use Rattle.mc_script_text.specs.Values.keyword
+use Rattle.mc_protocol.proofs.OfWords.{word-of_verb}
+use Rattle.mc_script.specs.Chains.{◌>>=◌}
+use Rattle.mc_script.specs.{Script.Names, ScriptWords.is_label_name, ScriptWords.label_word}
 use Rattle.mc_script_text.proofs.Outcomes.{then-some, cond-cases, some-same, only-then, only-else}
-use Rattle.mc_script_text.proofs.FieldWords.{fields-spelled, fields-read}
-use Rattle.mc_script_text.proofs.MarkWords.{marks-spelled, marks-read}
+use Rattle.mc_script_text.proofs.{Lists.bytes-same, FieldWords.fields-spelled, FieldWords.fields-read, MarkWords.marks-spelled, MarkWords.marks-read}
 
 -- ---- verbs
 

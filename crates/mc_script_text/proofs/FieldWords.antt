@@ -1,19 +1,16 @@
 -- Numbers, bodies and the fields after a key are read exactly where words spell them.
 use Rattle.std.proofs.Common.{◌≡◌, ℕ, ◌==◌, true, false, Some, Result, Ok, Err, List, [], ◌∷◌, ◌++◌, drop, refl, sym, ap, subst, ◌∙◌, arith}
-use Rattle.std.proofs.lemmas.Bool.{eqb-true, and_parts}
-use Rattle.std.proofs.lemmas.Bool.Decides.{nat_tests}
+use Rattle.std.proofs.{lemmas.Bool.eqb-true, lemmas.Bool.and_parts, lemmas.Bool.Decides.nat_tests}
 use Rattle.std.specs.Result.{result_ok}
 use Rattle.mc_script_text.specs.Values.{Fields, Verb, Word, Words, Parts, Argument, Template}
+use Rattle.mc_script_text.specs.SectionText.{SpellsAmount, SpellsUnique, SpellsFields}
+use Rattle.mc_script_text.specs.Reading.{number_in, body_in, variable_named, unique_in, amount_in, nothing, fields_in, field_count, template_of}
 use Rattle.mc_script_text.specs.Values.fields
 use Rattle.mc_script_text.specs.Values.argument
 use Rattle.mc_protocol.specs.Decimals.{SpellsNumber, decimal_in, are_digits, is_digit, MAX_32, MAX_64}
-use Rattle.mc_protocol.specs.Names.{index_of}
-use Rattle.mc_protocol.specs.declared.decimal.DecimalFault.{DecimalFault}
+use Rattle.mc_protocol.specs.{Names.index_of, declared.decimal.DecimalFault.DecimalFault}
 use Rattle.mc_protocol.proofs.Decimals.{decimal-spelled, decimal-read}
-use Rattle.mc_script.specs.Script.{Names}
-use Rattle.mc_script.specs.ScriptWords.{is_body, body_word}
-use Rattle.mc_script_text.specs.SectionText.{SpellsAmount, SpellsUnique, SpellsFields}
-use Rattle.mc_script_text.specs.Reading.{number_in, body_in, variable_named, unique_in, amount_in, nothing, fields_in, field_count, template_of}
+use Rattle.mc_script.specs.{Script.Names, ScriptWords.is_body, ScriptWords.body_word}
 use Rattle.mc_script_text.proofs.Outcomes.{then-some, some-same, only-then, cond-cases}
 
 -- ---- numbers

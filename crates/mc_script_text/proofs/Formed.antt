@@ -1,12 +1,13 @@
 -- A script that a text spells is well formed.
 use Rattle.std.proofs.Common.{◌≡◌, ℕ, ◌+◌, ◌<◌, ◌≤◌, Bool, true, false, not, ◌&&◌, Option, Some, None, List, [], ◌∷◌, length, refl, sym, subst, arith}
-use Rattle.std.specs.List.{list_all, list_any}
-use Rattle.std.specs.Str.{bytes_eq}
-use Rattle.std.proofs.lemmas.Bool.{and_parts, le-leb, lt-ltb}
-use Rattle.std.proofs.lemmas.List.Quantifiers.{position-Some}
-use Rattle.std.proofs.lemmas.Nat.{pow_pos}
-use Rattle.mc_protocol.specs.Fields.{fields_of}
+use Rattle.std.proofs.{lemmas.Bool.and_parts, lemmas.Bool.le-leb, lemmas.Bool.lt-ltb, lemmas.List.Quantifiers.position-Some, lemmas.Nat.pow_pos}
+use Rattle.std.specs.{List.list_all, List.list_any, Str.bytes_eq}
+use Rattle.mc_protocol.specs.{Fields.fields_of, Names.index_of, Decimals.MAX_32, Decimals.MAX_64, Words.all_classes, Spelling.SpellEach}
 use Rattle.mc_script_text.specs.Values.{Actor, Fields, Verb, Class, Word, Words, Entry, Mark, Label, Argument, Step, Template, Version}
+use Rattle.mc_script_text.specs.Marks.{SpellsMark, may_stand, may_stand_together, have_no_twins, is_bind, is_number_jump, bound_by}
+use Rattle.mc_script_text.specs.SectionText.{SpellsAmount, SpellsUnique, SpellsFields, SpellsRequest, SpellsEntry, SpellsSection}
+use Rattle.mc_script_text.specs.Steps.{with_marks, jumps_on, label_after, labels_from, step_in, steps_from}
+use Rattle.mc_script_text.specs.{ScriptText.SpellsBudget, ScriptText.SpellsScript, Reading.step_total}
 use Rattle.mc_script_text.specs.Values.actor
 use Rattle.mc_script_text.specs.Values.fields
 use Rattle.mc_script_text.specs.Values.entry
@@ -14,25 +15,11 @@ use Rattle.mc_script_text.specs.Values.mark
 use Rattle.mc_script_text.specs.Values.sign
 use Rattle.mc_script_text.specs.Values.argument
 use Rattle.mc_script_text.specs.Values.step
-use Rattle.mc_protocol.specs.Names.{index_of}
-use Rattle.mc_protocol.specs.Decimals.{MAX_32, MAX_64}
-use Rattle.mc_protocol.specs.Words.{all_classes}
-use Rattle.mc_protocol.specs.Spelling.{SpellEach}
-use Rattle.mc_script.specs.Script.{Names, Section, Script}
-use Rattle.mc_script_text.specs.Marks.{SpellsMark, may_stand, may_stand_together, have_no_twins, is_bind, is_number_jump, bound_by}
-use Rattle.mc_script.specs.WellFormed.{shows_numbers}
-use Rattle.mc_script_text.specs.SectionText.{SpellsAmount, SpellsUnique, SpellsFields, SpellsRequest, SpellsEntry, SpellsSection}
-use Rattle.mc_script_text.specs.Steps.{with_marks, jumps_on, label_after, labels_from, step_in, steps_from}
-use Rattle.mc_script_text.specs.ScriptText.{SpellsBudget, SpellsScript}
 use Rattle.mc_script.specs.Templates.{IsTemplate, has_fields, is_variable, is_amount}
-use Rattle.mc_script_text.specs.Reading.{step_total}
 use Rattle.mc_script.specs.WellFormed.{IsStep, AreSteps, AreLabels, IsSection, IsScript, MayBind}
-use Rattle.mc_script_text.proofs.Declared.{steps-within}
-use Rattle.mc_script_text.proofs.Outcomes.{then-some, some-same, front-parts}
-use Rattle.mc_script_text.proofs.Masks.{mask-below, masks-apart}
-use Rattle.mc_script_text.proofs.JumpLists.{label-after, jumps-formed, no-number-jump}
-use Rattle.mc_script_text.proofs.Lists.{three}
-use Rattle.mc_script_text.proofs.SectionLines.{steps_count}
+use Rattle.mc_script.specs.{Script.Names, Script.Section, Script.Script, WellFormed.shows_numbers}
+use Rattle.mc_script_text.proofs.{Declared.steps-within, Outcomes.then-some, Outcomes.some-same, Outcomes.front-parts, Masks.mask-below, Masks.masks-apart}
+use Rattle.mc_script_text.proofs.{JumpLists.label-after, JumpLists.jumps-formed, JumpLists.no-number-jump, Lists.three, SectionLines.steps_count}
 
 index-below : (names : List Word) (name : Word) (index : ℕ) → index_of names name ≡ Some index → index < length names
 index-below names name index h = (position-Some (λ n. bytes_eq n name) names index [] h).0

@@ -1,9 +1,8 @@
 -- The words of a text are those of its lines, one after another; and the first lines of a text are those of their bytes.
 use Rattle.std.proofs.Common.{◌≡◌, ℕ, ◌+◌, ◌-◌, ◌<◌, ◌≤◌, ◌==◌, suc, Bool, true, false, cond, ◌⊎◌, inl, inr, ⊎_elim, List, [], ◌∷◌, ◌++◌, length}
 use Rattle.std.proofs.Common.{map, take, drop, min, get_or, if◌then◌else◌, refl, sym, ap, subst, ◌∙◌, append-nil, length-take, arith}
+use Rattle.std.proofs.{lemmas.Bool.eqb-true, lemmas.List.take_all, lemmas.List.drop_all}
 use Rattle.std.specs.List.{concat, flat_map, AllByRecursion}
-use Rattle.std.proofs.lemmas.Bool.{eqb-true}
-use Rattle.std.proofs.lemmas.List.{take_all, drop_all}
 use Rattle.bstr.specs.Text.{line_len, lines_of, without_terminator}
 use Rattle.bstr.proofs.lemmas.LineLemmas.{EndsLine, line_len-bounds, lines-nil, lines-step, lines-append}
 use Rattle.mc_protocol.specs.declared.lines.Separator.{Separator}

@@ -1,25 +1,20 @@
 -- The front of a text that spells a script ends with the first line that is `end`, since one line of a script is.
 use Rattle.std.proofs.Common.{◌≡◌, ℕ, ◌+◌, cond, Bool, false, List, [], ◌∷◌, ◌++◌, codes, refl, ap, ◌∙◌, arith, ◌≤◌, true, if◌then◌else◌, length, take, sym}
-use Rattle.std.proofs.Common.{subst, append_assoc}
+use Rattle.std.proofs.{Common.subst, Common.append_assoc, lemmas.List.take_at, lemmas.List.Folds.concat-append}
 use Rattle.mc_script_text.specs.Values.{Actor, SpaceOrTab, Word, Words, Entry, Budget, Version}
+use Rattle.mc_script_text.specs.ScriptText.{SpellsInVersion, SpellsBudget, names_line, names_lines, section_line, end_line, body_lines, SpellsScript}
+use Rattle.mc_script_text.specs.FrontText.{SpellsFront, FrontsSpellOneScript, IsEnd}
+use Rattle.mc_script_text.specs.{SectionText.SpellsEntry, Reading.begins_with_end, Reading.is_end, Reading.to_end}
 use Rattle.mc_script_text.specs.Values.actor
 use Rattle.mc_protocol.specs.Lines.{words_of_text, is_only, words_of, is_skipped, Words}
-use Rattle.mc_protocol.specs.Spelling.{SpellEach}
+use Rattle.mc_protocol.specs.{Spelling.SpellEach, declared.lines.Separator.TheVariants.SpaceOrTab}
 use Rattle.mc_script.specs.Script.{Names, Script}
-use Rattle.mc_script_text.specs.SectionText.{SpellsEntry}
-use Rattle.mc_script_text.specs.ScriptText.{SpellsInVersion, SpellsBudget, names_line, names_lines, section_line, end_line, body_lines, SpellsScript}
-use Rattle.mc_script_text.proofs.EntryWords.{entry-read}
 use Rattle.mc_script_text.proofs.SectionLines.{other-line, only-line, only-itself}
-use Rattle.mc_script_text.proofs.WholeScript.{no-entry-end, one_script}
+use Rattle.mc_script_text.proofs.FrontLines.{line_words, IsLine, words-by_lines, words-of_line, lines-of_front}
+use Rattle.mc_script_text.proofs.{EntryWords.entry-read, WholeScript.no-entry-end, WholeScript.one_script}
 use Rattle.std.specs.List.{concat, flat_map, AllByRecursion}
-use Rattle.std.proofs.lemmas.List.{take_at}
-use Rattle.std.proofs.lemmas.List.Folds.{concat-append}
 use Rattle.bstr.specs.Text.{lines_of, without_terminator}
 use Rattle.bstr.proofs.lemmas.RestLemmas.{concat-lines_of}
-use Rattle.mc_protocol.specs.declared.lines.Separator.TheVariants.{SpaceOrTab}
-use Rattle.mc_script_text.specs.FrontText.{SpellsFront, FrontsSpellOneScript, IsEnd}
-use Rattle.mc_script_text.specs.Reading.{begins_with_end, is_end, to_end}
-use Rattle.mc_script_text.proofs.FrontLines.{line_words, IsLine, words-by_lines, words-of_line, lines-of_front}
 
 -- how many of these pass the test
 abbrev pub count : {X : Type 0} → (X → Bool) → List X → ℕ

@@ -1,21 +1,17 @@
 -- The jumps of a step: found in the order of its marks, on legal classes in their order, to labels after the step.
 use Rattle.std.proofs.Common.{◌≡◌, ℕ, ◌+◌, ◌≤◌, ◌==◌, nat_lt, true, false, ◌&&◌, ◌⊎◌, inl, inr, ⊎_elim, Option, Some, None, List, [], ◌∷◌, get_or, refl}
 use Rattle.std.proofs.Common.{sym, ap, subst, ◌∙◌, arith, Bool, not, ◌||◌, cond, ◌++◌}
-use Rattle.std.specs.List.{list_all, list_any}
-use Rattle.std.specs.Str.{bytes_eq}
 use Rattle.std.proofs.lemmas.Bool.{and_parts, or_left, or_right, or_from, eqb-true, ltb-true, false_from_ne_true, both_ways, not-true}
-use Rattle.std.proofs.lemmas.List.Quantifiers.{position-Some}
-use Rattle.std.proofs.lemmas.Option.{slice_get-get_or}
-use Rattle.mc_protocol.specs.Legal.{is_legal}
-use Rattle.mc_script_text.specs.Values.{Verb, Class, Word, Mark, Label}
+use Rattle.std.proofs.{lemmas.List.Quantifiers.position-Some, lemmas.Option.slice_get-get_or}
+use Rattle.std.specs.{List.list_all, List.list_any, Str.bytes_eq}
+use Rattle.mc_protocol.specs.{Legal.is_legal, Words.class_index, Words.all_classes}
+use Rattle.mc_script_text.specs.Marks.{may_stand, is_number_jump, target_of, are_twins, have_no_twins}
+use Rattle.mc_script_text.specs.{Values.Verb, Values.Class, Values.Word, Values.Mark, Values.Label, Steps.label_after, Steps.jump_named, Steps.jump_before}
+use Rattle.mc_script_text.specs.{Steps.jumps_on, Steps.in_front, Reading.targets_in, Reading.label_for, Reading.one_jump, Reading.jumps_to}
 use Rattle.mc_script_text.specs.Values.class
 use Rattle.mc_script_text.specs.Values.mark
-use Rattle.mc_protocol.specs.Words.{class_index, all_classes}
-use Rattle.mc_script_text.specs.Marks.{may_stand, is_number_jump, target_of, are_twins, have_no_twins}
-use Rattle.mc_script_text.specs.Steps.{label_after, jump_named, jump_before, jumps_on, in_front}
 use Rattle.mc_script.specs.WellFormed.{IsAfter, AreJumps, is_number_class, jumps_on_number}
 use Rattle.mc_script_text.proofs.Outcomes.{then-some, some-same, cond-cases, front-parts}
-use Rattle.mc_script_text.specs.Reading.{targets_in, label_for, one_jump, jumps_to}
 
 -- ---- classes
 

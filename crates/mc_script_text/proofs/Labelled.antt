@@ -1,15 +1,12 @@
 -- A line is a label exactly where what it says is one.
 use Rattle.std.proofs.Common.{◌≡◌, ℕ, nat_lt, Bool, true, false, cond, Option, Some, None, Result, Ok, Err, List, [], ◌∷◌, refl, sym, ap, subst, ◌∙◌}
 use Rattle.std.specs.Result.{IfOk}
-use Rattle.mc_script_text.specs.Values.{Word, Words, Entry, WordFault}
+use Rattle.mc_script_text.specs.{Values.Word, Values.Words, Values.Entry, Values.WordFault, Reading.Gives, Reading.entry_in, Reading.label_of}
+use Rattle.mc_script_text.specs.{Reading.label_named, Reading.is_label, Reading.may_follow, Reading.following, Reading.with_label}
 use Rattle.mc_script_text.specs.Values.entry
 use Rattle.mc_protocol.specs.Names.{is_new}
-use Rattle.mc_script.specs.Script.{Names}
-use Rattle.mc_script.specs.ScriptWords.{is_label_name}
-use Rattle.mc_script_text.specs.Reading.{Gives, entry_in, label_of, label_named}
-use Rattle.mc_script_text.specs.Reading.{is_label, may_follow, following, with_label}
-use Rattle.mc_script_text.proofs.EntryWords.{entry-spelled, colon-read}
-use Rattle.mc_script_text.proofs.Outcomes.{some-same, only-then}
+use Rattle.mc_script.specs.{Script.Names, ScriptWords.is_label_name}
+use Rattle.mc_script_text.proofs.{EntryWords.entry-spelled, EntryWords.colon-read, Outcomes.some-same, Outcomes.only-then}
 
 -- a line that is no label says no label
 entry-no-label : (names : Names) (line : Words) (e : Entry) → label_of line ≡ None → entry_in names line ≡ Some e → is_label e ≡ false

@@ -1,23 +1,19 @@
 -- The marks of a request are read exactly where its words spell them, and they may stand together.
 use Rattle.std.proofs.Common.{◌≡◌, ℕ, ◌+◌, ◌<◌, ◌==◌, Bool, true, not, Option, Some, None, [], ◌∷◌, ◌++◌, length, take, drop, get_or, refl, sym, ap, subst}
 use Rattle.std.proofs.Common.{◌∙◌, arith, length-append, suc, false, ◌&&◌, ◌||◌, List, append-nil, append_assoc}
-use Rattle.std.specs.List.{list_all, position, position_or_len, list_any}
 use Rattle.std.proofs.lemmas.Bool.{eqb-true, lt-ltb, and_parts, not-true, and_from}
-use Rattle.std.proofs.Math.Seq.{take-append_seam}
-use Rattle.std.proofs.lemmas.List.{take-append-drop, drop_more}
-use Rattle.std.proofs.lemmas.List.Quantifiers.{position-Some}
+use Rattle.std.proofs.{Math.Seq.take-append_seam, lemmas.List.take-append-drop, lemmas.List.drop_more, lemmas.List.Quantifiers.position-Some}
+use Rattle.std.specs.List.{list_all, position, position_or_len, list_any}
 use Rattle.mc_script_text.specs.Values.{Class, Word, Mark, Sign, Verb, Words}
+use Rattle.mc_script_text.specs.Marks.{SpellsMark, sign_byte, may_stand, are_twins, have_no_twins, is_bind, is_number_jump, may_stand_together}
+use Rattle.mc_script_text.specs.Reading.{mark_in, bind_mark_in, flag_or_jump, flag_in, jump_in, sign_of, marks_in, may_join, joining, binds}
 use Rattle.mc_script_text.specs.Values.class
 use Rattle.mc_script_text.specs.Values.mark
 use Rattle.mc_script_text.specs.Values.sign
-use Rattle.mc_protocol.specs.Names.{index_of}
-use Rattle.mc_protocol.specs.Words.{class_word, class_of_word}
+use Rattle.mc_protocol.specs.{Names.index_of, Words.class_word, Words.class_of_word, Spelling.SpellEach}
 use Rattle.mc_protocol.proofs.OfWords.{class_of-word, word-of_class}
 use Rattle.mc_script.specs.Script.{Names}
-use Rattle.mc_script_text.specs.Marks.{SpellsMark, sign_byte, may_stand, are_twins, have_no_twins, is_bind, is_number_jump, may_stand_together}
-use Rattle.mc_script_text.specs.Reading.{mark_in, bind_mark_in, flag_or_jump, flag_in, jump_in, sign_of, marks_in, may_join, joining, binds}
 use Rattle.mc_script_text.proofs.Outcomes.{then-some, some-same, cond-cases, only-then}
-use Rattle.mc_protocol.specs.Spelling.{SpellEach}
 use Rattle.mc_script_text.proofs.Lists.{three, none_twins, twins-push, none-before}
 
 -- ---- the first colon

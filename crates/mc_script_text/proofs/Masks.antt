@@ -1,21 +1,16 @@
 -- The flags that marks say, as bits of masks.
 use Rattle.std.proofs.Common.{◌≡◌, ℕ, ◌<◌, ◌==◌, ◌^◌, Bool, true, false, cond, ◌⊎◌, inl, inr, ⊎_elim, Option}
 use Rattle.std.proofs.Common.{Some, None, List, [], ◌∷◌, length, refl, sym, ap, ◌∙◌, arith, bit_and}
-use Rattle.std.specs.Int.{bit_at}
-use Rattle.std.specs.List.{list_any, fold}
-use Rattle.std.specs.Str.{bytes_eq}
 use Rattle.std.proofs.lemmas.Bool.{and_parts, and_from, or_parts, or_from, not-true, eqb-true, eqb-false, eq-eqb, false_from_ne_true, both_ways, cases_Bool}
-use Rattle.std.proofs.lemmas.Nat.{or_lt, pow_below}
 use Rattle.std.proofs.lemmas.Nat.Bits.{bit_at_and, bit_at_or, bit_at-pow_other, bit_at-zero, same_from_bits}
-use Rattle.std.proofs.lemmas.List.Quantifiers.{position-Some}
-use Rattle.mc_script_text.specs.Values.{Word, Words, Mark, Sign}
+use Rattle.std.proofs.{lemmas.Nat.or_lt, lemmas.Nat.pow_below, lemmas.List.Quantifiers.position-Some}
+use Rattle.std.specs.{Int.bit_at, List.list_any, List.fold, Str.bytes_eq}
+use Rattle.mc_script_text.specs.Marks.{SpellsMark, sign_byte, is_need, are_twins, have_no_twins, says, with_flag, mask_of}
+use Rattle.mc_script_text.specs.{Values.Word, Values.Words, Values.Mark, Values.Sign, Reading.sign_of}
 use Rattle.mc_script_text.specs.Values.mark
 use Rattle.mc_script_text.specs.Values.sign
-use Rattle.mc_protocol.specs.Legal.{same}
-use Rattle.mc_protocol.specs.Spelling.{SpellEach}
+use Rattle.mc_protocol.specs.{Legal.same, Spelling.SpellEach}
 use Rattle.mc_script.specs.Script.{Names}
-use Rattle.mc_script_text.specs.Marks.{SpellsMark, sign_byte, is_need, are_twins, have_no_twins, says, with_flag, mask_of}
-use Rattle.mc_script_text.specs.Reading.{sign_of}
 use Rattle.mc_script_text.proofs.Outcomes.{some-same}
 
 -- the mask with the flags of which the marks say this

@@ -1,14 +1,11 @@
 -- Names that differ, and whether one more may be declared after others.
 use Rattle.std.proofs.Common.{◌≡◌, ◌≢◌, Bor, Some, None, ℕ, ◌+◌, ◌<◌, true, false, Bool, ◌&&◌, nat_le, nat_lt, List, [], ◌∷◌, ◌++◌, length}
 use Rattle.std.proofs.Common.{get_or, take, drop, map, refl, sym, ap, subst, ◌∙◌, arith, length-append, append_assoc}
-use Rattle.std.specs.List.{list_all, list_any}
-use Rattle.std.specs.Str.{bytes_eq}
 use Rattle.std.proofs.lemmas.Bool.{le-leb, leb-true, not-true, not_from_false, false_from_ne_true, both_ways, or_parts, and_parts, and_from}
-use Rattle.std.proofs.lemmas.Bool.Decides.{nat_tests}
 use Rattle.std.proofs.lemmas.List.{take-append-drop, map-append, drop_more}
-use Rattle.std.proofs.lemmas.List.Folds.{list_all-append, list_any-append}
-use Rattle.mc_protocol.specs.Lines.{Word}
-use Rattle.mc_protocol.specs.Names.{is_name, is_new, are_distinct}
+use Rattle.std.proofs.{lemmas.Bool.Decides.nat_tests, lemmas.List.Folds.list_all-append, lemmas.List.Folds.list_any-append}
+use Rattle.std.specs.{List.list_all, List.list_any, Str.bytes_eq}
+use Rattle.mc_protocol.specs.{Lines.Word, Names.is_name, Names.is_new, Names.are_distinct}
 use Rattle.mc_script_text.specs.Reading.{may_follow_names, names_in}
 use Rattle.mc_script.specs.Script.{may_be_declared}
 use Rattle.mc_script_text.proofs.Lists.{three, from-three, any-push, regroup, bytes-swap}

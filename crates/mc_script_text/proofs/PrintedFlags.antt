@@ -1,21 +1,16 @@
 -- The flags of a template as marks: they say its masks, and none are twins.
 use Rattle.std.proofs.Common.{◌≡◌, ℕ, ◌+◌, ◌*◌, ◌%◌, ◌<◌, ◌≤◌, ◌==◌, ◌^◌, Bool, true, false, not, cond, Some, None, List, subst}
 use Rattle.std.proofs.Common.{[], ◌∷◌, ◌++◌, length, get_or, bit_and, bit_or, min, refl, sym, ap, ◌∙◌, arith, suc}
-use Rattle.std.specs.Int.{bit_at}
-use Rattle.std.specs.List.{list_all, list_any}
 use Rattle.std.proofs.lemmas.Bool.{and_parts, and_from, and_left, and_right, or_from, or_parts, not-true}
 use Rattle.std.proofs.lemmas.Bool.{not_from_false, eqb-true, eq-eqb, ne_eqb, both_ways, cond_both}
-use Rattle.std.proofs.lemmas.List.Folds.{list_all-append}
-use Rattle.std.proofs.lemmas.Nat.{mod-pow-add, or_shifted, or_comm, pow_pos, mod_below}
-use Rattle.std.proofs.Math.Nat.{mod-eq_of_lt}
-use Rattle.std.proofs.lemmas.Nat.Bits.{bit_at_and, bit_at-lt, bit_at-zero}
-use Rattle.mc_script_text.specs.Values.{Word, Mark, Sign, Template}
+use Rattle.std.proofs.{lemmas.List.Folds.list_all-append, lemmas.Nat.mod-pow-add, lemmas.Nat.or_shifted, lemmas.Nat.or_comm, lemmas.Nat.pow_pos}
+use Rattle.std.proofs.{lemmas.Nat.mod_below, Math.Nat.mod-eq_of_lt, lemmas.Nat.Bits.bit_at_and, lemmas.Nat.Bits.bit_at-lt, lemmas.Nat.Bits.bit_at-zero}
+use Rattle.std.specs.{Int.bit_at, List.list_all, List.list_any}
+use Rattle.mc_script_text.specs.Marks.{sign_byte, is_need, are_twins, have_no_twins, says, with_flag}
+use Rattle.mc_script_text.specs.{Values.Word, Values.Mark, Values.Sign, Values.Template, PrintedScript.flag_words, PrintedScript.all_flag_words}
 use Rattle.mc_script_text.specs.Values.mark
 use Rattle.mc_script_text.specs.Values.sign
-use Rattle.mc_protocol.specs.Legal.{same}
-use Rattle.mc_protocol.specs.Spelling.{SpellEach}
-use Rattle.mc_script_text.specs.Marks.{sign_byte, is_need, are_twins, have_no_twins, says, with_flag}
-use Rattle.mc_script_text.specs.PrintedScript.{flag_words, all_flag_words}
+use Rattle.mc_protocol.specs.{Legal.same, Spelling.SpellEach}
 use Rattle.mc_script_text.proofs.Masks.{gathered}
 
 -- ---- lists

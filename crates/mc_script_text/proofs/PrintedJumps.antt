@@ -1,24 +1,17 @@
 -- The marks of a step as they are printed: they say its jumps, and what is bound.
 use Rattle.std.proofs.Common.{◌≡◌, ℕ, ◌+◌, ◌<◌, ◌==◌, true, Option, Some, None, List, [], ◌∷◌, ◌++◌}
 use Rattle.std.proofs.Common.{refl, ap, ◌∙◌, arith, ◌≤◌, cond, ◌⊎◌, inl, inr, ⊎_elim, sym, subst, append_assoc}
-use Rattle.std.specs.List.{list_all}
 use Rattle.std.proofs.lemmas.Bool.{ne_eqb, eq-eqb, cond-true, cond-false, cases_order}
-use Rattle.mc_script_text.specs.Values.{Verb, Class, Word, Mark, Label}
-use Rattle.mc_script_text.specs.Values.{Template}
+use Rattle.std.specs.List.{list_all}
+use Rattle.mc_script_text.specs.{Values.Verb, Values.Class, Values.Word, Values.Mark, Values.Label, Values.Template, Marks.target_of, Marks.bound_by}
+use Rattle.mc_script_text.specs.{PrintedScript.label_at, Steps.in_front, Steps.jump_before, Steps.jumps_on}
 use Rattle.mc_script_text.specs.Values.class
 use Rattle.mc_script_text.specs.Values.mark
-use Rattle.mc_protocol.specs.Names.{are_distinct}
-use Rattle.mc_protocol.specs.Words.{class_index, all_classes}
-use Rattle.mc_script.specs.WellFormed.{label_names}
-use Rattle.mc_script_text.specs.Marks.{target_of, bound_by}
-use Rattle.mc_script.specs.WellFormed.{IsAfter, AreJumps}
-use Rattle.mc_script_text.specs.PrintedScript.{label_at}
-use Rattle.mc_script_text.proofs.JumpLists.{class-same}
-use Rattle.mc_script_text.proofs.PrintedNames.{label-found}
-use Rattle.mc_script_text.proofs.PrintedFlags.{all_flag_marks}
+use Rattle.mc_protocol.specs.{Names.are_distinct, Words.class_index, Words.all_classes}
 use Rattle.mc_script.specs.Chains.{◌>>=◌}
-use Rattle.mc_script_text.specs.Steps.{in_front, jump_before, jumps_on}
+use Rattle.mc_script.specs.{WellFormed.label_names, WellFormed.IsAfter, WellFormed.AreJumps}
 use Rattle.mc_script_text.proofs.PrintedMarks.{jump_marks, bind_marks, marks_of, is_flag_mark, flags-are-flags}
+use Rattle.mc_script_text.proofs.{JumpLists.class-same, PrintedNames.label-found, PrintedFlags.all_flag_marks}
 
 -- ---- they say the jumps, and what is bound
 

@@ -1,15 +1,10 @@
 -- Lines that are printed: a text of them falls into them again.
 use Rattle.std.proofs.Common.{◌≡◌, ◌≢◌, ℕ, ◌+◌, ◌-◌, ◌<◌, ◌==◌, nat_le, nat_lt, Bool, true, false, not, ◌&&◌, List, [], ◌∷◌, ◌++◌, length}
 use Rattle.std.proofs.Common.{map, take, slice_index, filter, refl, sym, ap, ◌∙◌, arith, append-nil, length-append, inr, min}
-use Rattle.std.specs.List.{All, list_all, slice_split}
 use Rattle.std.proofs.lemmas.Bool.{and_parts, and_from, cond-true, cond-false, eq-eqb, lt-ltb}
-use Rattle.std.proofs.lemmas.Bool.Decides.{nat_tests}
-use Rattle.std.proofs.lemmas.List.Elements.{All-weaker}
-use Rattle.std.proofs.lemmas.List.Folds.{list_all-append}
-use Rattle.std.proofs.lemmas.List.Splits.{slice_split_none, slice_split_at}
-use Rattle.std.proofs.lemmas.List.Sums.{AllPass-from_list_all}
-use Rattle.std.proofs.Math.ListN.{get_or-append}
-use Rattle.std.proofs.Math.Seq.{take-append_seam}
+use Rattle.std.proofs.{lemmas.Bool.Decides.nat_tests, lemmas.List.Elements.All-weaker, lemmas.List.Folds.list_all-append, lemmas.List.Splits.slice_split_none}
+use Rattle.std.proofs.{lemmas.List.Splits.slice_split_at, lemmas.List.Sums.AllPass-from_list_all, Math.ListN.get_or-append, Math.Seq.take-append_seam}
+use Rattle.std.specs.List.{All, list_all, slice_split}
 use Rattle.bstr.specs.Text.{lines_of, no_cr, without_terminator}
 use Rattle.bstr.proofs.lemmas.LineLemmas.{lines-append, lines-one, lines-nil}
 use Rattle.mc_protocol.specs.declared.lines.Separator.TheVariants.{SpaceOrTab}

@@ -1,34 +1,24 @@
 -- The marks of a step as they are printed: words spell them, they may stand together, and they say the masks of its flags.
 use Rattle.std.proofs.Common.{◌≡◌, ℕ, ◌+◌, ◌<◌, ◌==◌, nat_le, Bool, true, false, not, ◌&&◌, ◌||◌, Option, Some, None, List, [], ◌∷◌, ◌++◌, length, map}
 use Rattle.std.proofs.Common.{refl, ap, ◌∙◌, arith, ◌^◌}
-use Rattle.std.specs.List.{list_all, list_any}
 use Rattle.std.proofs.lemmas.Bool.{and_from, and_right, or_from, not_from_false, ne_eqb}
 use Rattle.std.proofs.lemmas.Option.{slice_get_within}
-use Rattle.mc_protocol.specs.Legal.{is_legal}
+use Rattle.std.specs.List.{list_all, list_any}
+use Rattle.mc_protocol.specs.{Legal.is_legal, Names.is_name, Names.are_distinct, Words.class_word, Words.class_index, Spelling.SpellEach}
 use Rattle.mc_script_text.specs.Values.{Verb, Class, Word, KEYS_LIMIT, KEY_BYTES_LIMIT, Mark, Sign, FLAGS_LIMIT, VARIABLES_LIMIT, NAME_BYTES_LIMIT, Label}
-use Rattle.mc_script_text.specs.Values.{Template}
+use Rattle.mc_script_text.specs.Marks.{sign_byte, jump_word, SpellsMark, are_twins, have_no_twins, may_stand, may_stand_together, is_bind}
+use Rattle.mc_script_text.specs.PrintedScript.{name_at, label_at, jump_words, bind_words, mark_words}
+use Rattle.mc_script_text.specs.{Values.Template, Marks.is_number_jump, Marks.mask_of}
 use Rattle.mc_script_text.specs.Values.class
 use Rattle.mc_script_text.specs.Values.mark
 use Rattle.mc_script_text.specs.Values.sign
-use Rattle.mc_protocol.specs.Names.{is_name, are_distinct}
-use Rattle.mc_protocol.specs.Words.{class_word, class_index}
-use Rattle.mc_protocol.specs.Spelling.{SpellEach}
-use Rattle.mc_script.specs.Script.{Names, AreDeclared}
-use Rattle.mc_script.specs.ScriptWords.{is_label_name}
-use Rattle.mc_script.specs.WellFormed.{label_names}
-use Rattle.mc_script_text.specs.Marks.{sign_byte, jump_word, SpellsMark, are_twins, have_no_twins, may_stand, may_stand_together, is_bind}
-use Rattle.mc_script.specs.WellFormed.{shows_numbers}
-use Rattle.mc_script_text.specs.Marks.{is_number_jump, mask_of}
 use Rattle.mc_script.specs.WellFormed.{IsAfter, AreJumps, MayBind, is_number_class, jumps_on_number}
-use Rattle.mc_script.specs.Templates.{IsTemplate}
-use Rattle.mc_script_text.specs.PrintedScript.{name_at, label_at, jump_words, bind_words, mark_words}
-use Rattle.mc_script_text.proofs.Lists.{three, from-three, some-first}
-use Rattle.mc_script_text.proofs.JumpLists.{number-jump}
+use Rattle.mc_script.specs.{Script.Names, Script.AreDeclared, ScriptWords.is_label_name, WellFormed.label_names, WellFormed.shows_numbers, Templates.IsTemplate}
 use Rattle.mc_script_text.proofs.PrintedNames.{named-plain, front-whole, name-has, index-found, names-length}
 use Rattle.mc_script_text.proofs.PrintedLines.{is_plain, are_plain, is_whole}
 use Rattle.mc_script_text.proofs.PrintedFlags.{With, each-append, any-append, all-append, are_apart, no-twins-append, apart-append, all_flag_marks}
 use Rattle.mc_script_text.proofs.PrintedFlags.{all-flags-spell, all-flags-all, all-flags-distinct, flag_marks, others-silent, gathered-append, flags-say}
-use Rattle.mc_script_text.proofs.Masks.{gathered}
+use Rattle.mc_script_text.proofs.{Lists.three, Lists.from-three, Lists.some-first, JumpLists.number-jump, Masks.gathered}
 
 -- ---- declared names
 

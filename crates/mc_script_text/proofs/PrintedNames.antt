@@ -1,22 +1,16 @@
 -- Names, numbers and bodies that are printed: they are whole words, and spell what they were printed of.
 use Rattle.std.proofs.Common.{◌≡◌, ℕ, ◌+◌, ◌<◌, ◌≤◌, ◌==◌, nat_le, nat_lt, Bool, true, false, not, ◌&&◌, Some, List}
 use Rattle.std.proofs.Common.{[], ◌∷◌, ◌++◌, length, slice_get, decimal, refl, ap, ◌∙◌, arith, suc, zero}
-use Rattle.std.specs.List.{list_all, list_any, position_or_len}
-use Rattle.std.specs.Str.{bytes_eq}
 use Rattle.std.proofs.lemmas.Bool.{and_parts, and_from, or_parts, not-true, lt-ltb}
-use Rattle.std.proofs.lemmas.Bool.Decides.{nat_tests}
-use Rattle.std.proofs.lemmas.List.Folds.{list_all-append}
-use Rattle.mc_script_text.specs.Values.{Word, Label}
-use Rattle.mc_protocol.specs.Decimals.{is_digit, MAX_64}
-use Rattle.mc_protocol.specs.Names.{is_name, is_name_byte, is_new, are_distinct, index_of}
+use Rattle.std.proofs.{lemmas.Bool.Decides.nat_tests, lemmas.List.Folds.list_all-append}
+use Rattle.std.specs.{List.list_all, List.list_any, List.position_or_len, Str.bytes_eq}
+use Rattle.mc_script_text.specs.{Values.Word, Values.Label, Steps.label_after, PrintedScript.name_at, PrintedScript.label_at}
+use Rattle.mc_protocol.specs.{Decimals.is_digit, Decimals.MAX_64, Names.is_name, Names.is_name_byte, Names.is_new, Names.are_distinct, Names.index_of}
 use Rattle.mc_protocol.proofs.Decimals.{decimal-spells}
 use Rattle.mc_script.specs.ScriptWords.{is_label_name, is_body, is_body_byte, body_word, label_word}
 use Rattle.mc_script.specs.WellFormed.{label_names}
-use Rattle.mc_script_text.specs.Steps.{label_after}
-use Rattle.mc_script_text.specs.PrintedScript.{name_at, label_at}
 use Rattle.mc_script_text.proofs.PrintedLines.{is_plain, are_plain, is_whole, all-weaker}
-use Rattle.mc_script_text.proofs.Lists.{three, some-first}
-use Rattle.mc_script_text.proofs.SectionLines.{bytes-equal}
+use Rattle.mc_script_text.proofs.{Lists.three, Lists.some-first, SectionLines.bytes-equal}
 
 -- ---- numbers
 

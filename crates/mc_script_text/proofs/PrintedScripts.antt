@@ -1,30 +1,23 @@
 -- The whole text as it is printed: its lines spell the script.
 use Rattle.std.proofs.Common.{◌≡◌, ℕ, ◌+◌, true, List, [], ◌∷◌, ◌++◌, length, decimal, refl, arith}
-use Rattle.std.proofs.Common.{codes}
+use Rattle.std.proofs.{Common.codes, lemmas.Bool.and_from, lemmas.List.Folds.list_all-append}
 use Rattle.std.specs.List.{list_all}
-use Rattle.std.proofs.lemmas.Bool.{and_from}
-use Rattle.mc_protocol.specs.Words.{actor_word}
+use Rattle.mc_protocol.specs.{Words.actor_word, Names.is_name}
 use Rattle.mc_script_text.specs.Values.{KEY_BYTES_LIMIT, Word, Words, NAME_BYTES_LIMIT, Actor}
 use Rattle.mc_script_text.specs.Values.{Sections, REQUESTS_LIMIT, REQUEST_BYTES_LIMIT, FLAGS_LIMIT, Version}
-use Rattle.mc_protocol.specs.Names.{is_name}
+use Rattle.mc_script_text.specs.PrintedScript.{section_lines, bodies_of, budget_line, script_lines, script_text, PrintedScriptsAreSpelled}
+use Rattle.mc_script_text.specs.ScriptText.{SpellsBudget, header, names_line, names_lines, section_line, end_line, body_lines}
+use Rattle.mc_script_text.specs.{SectionText.SpellsSection, PrintedScript.PrintedScriptsAreReadAgain}
 use Rattle.mc_protocol.proofs.Decimals.{decimal-spells}
 use Rattle.mc_script.specs.Script.{Names, Section, Script, section_of, longest, version_of}
-use Rattle.mc_script_text.specs.SectionText.{SpellsSection}
 use Rattle.mc_script.specs.WellFormed.{IsSection, IsScript}
-use Rattle.mc_script_text.specs.PrintedScript.{section_lines, bodies_of, budget_line, script_lines, script_text, PrintedScriptsAreSpelled}
-use Rattle.mc_script_text.specs.PrintedScript.{PrintedScriptsAreReadAgain}
 use Rattle.mc_script_text.proofs.PrintedLines.{is_whole, are_whole, is_line, are_lines, all-weaker, lines_fall_apart}
-use Rattle.mc_script_text.proofs.PrintedNames.{decimal-whole, named-whole}
-use Rattle.mc_script_text.proofs.PrintedFlags.{all-append}
-use Rattle.mc_script_text.proofs.PrintedMarks.{known}
-use Rattle.std.proofs.lemmas.List.Folds.{list_all-append}
+use Rattle.mc_script_text.proofs.PrintedSections.{line-from, section-lines, section-spells}
+use Rattle.mc_script_text.proofs.{PrintedNames.decimal-whole, PrintedNames.named-whole, PrintedFlags.all-append, PrintedMarks.known, Declared.declared-few}
+use Rattle.mc_script_text.proofs.{Declared.least-has-room, WholeScript.one_script, WholeScript.each}
 use Rattle.mc_script_text.specs.Values.actor
 use Rattle.mc_script_text.specs.Values.version
 use Rattle.mc_protocol.specs.Sections as sections
-use Rattle.mc_script_text.specs.ScriptText.{SpellsBudget, header, names_line, names_lines, section_line, end_line, body_lines}
-use Rattle.mc_script_text.proofs.Declared.{declared-few, least-has-room}
-use Rattle.mc_script_text.proofs.WholeScript.{one_script, each}
-use Rattle.mc_script_text.proofs.PrintedSections.{line-from, section-lines, section-spells}
 
 -- ---- the whole text
 

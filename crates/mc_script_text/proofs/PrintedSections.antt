@@ -1,43 +1,31 @@
 -- The lines of steps and of sections as they are printed: they spell the section.
 use Rattle.std.proofs.Common.{◌≡◌, ℕ, ◌+◌, ◌<◌, ◌==◌, ◌^◌, nat_le, true, Option, Some, List, [], ◌∷◌, ◌++◌, length, decimal, refl, sym, ap, ◌∙◌, arith, ◌≤◌}
-use Rattle.std.proofs.Common.{Bool, false, cond, subst, append-nil}
-use Rattle.std.specs.List.{list_all}
 use Rattle.std.proofs.lemmas.Bool.{eqb-true, leb-true, ltb-true, and_parts, and_from, ne_eqb, le-leb, cond_both}
-use Rattle.mc_protocol.specs.Fields.{fields_of}
-use Rattle.mc_protocol.specs.Words.{verb_word}
+use Rattle.std.proofs.{Common.Bool, Common.false, Common.cond, Common.subst, Common.append-nil, lemmas.Bool.Decides.nat_tests}
+use Rattle.std.specs.List.{list_all}
+use Rattle.mc_protocol.specs.Decimals.{SpellsNumber, MAX_32, MAX_64}
+use Rattle.mc_protocol.specs.{Fields.fields_of, Words.verb_word, declared.request.Verb.TheVariants.Set, Names.is_name, Names.are_distinct, Spelling.SpellEach}
 use Rattle.mc_script_text.specs.Values.{Fields, Verb, Class, KEY_BYTES_LIMIT, Word, Words, Entry, Sign, NAME_BYTES_LIMIT, Label, Argument, Step, Template}
-use Rattle.mc_script_text.specs.Values.{Version}
+use Rattle.mc_script_text.specs.SectionText.{SpellsEntry, SpellsFields, SpellsVariable, SpellsUnique, SpellsAmount, SpellsSection}
+use Rattle.mc_script_text.specs.Steps.{in_front, with_marks, steps_from, labels_from}
+use Rattle.mc_script_text.specs.PrintedScript.{name_at, label_at, item_words, argument_words, mark_words, field_words, step_words, label_lines, step_lines}
+use Rattle.mc_script_text.specs.{Values.Version, Marks.SpellsMark, Marks.mask_of, Marks.bound_by, PrintedScript.section_lines}
 use Rattle.mc_script_text.specs.Values.fields
 use Rattle.mc_script_text.specs.Values.entry
 use Rattle.mc_script_text.specs.Values.sign
 use Rattle.mc_script_text.specs.Values.argument
 use Rattle.mc_script_text.specs.Values.step
-use Rattle.mc_protocol.specs.declared.request.Verb.TheVariants.{Set}
-use Rattle.mc_protocol.specs.Names.{is_name, are_distinct}
-use Rattle.mc_protocol.specs.Decimals.{SpellsNumber, MAX_32, MAX_64}
 use Rattle.mc_protocol.proofs.Decimals.{decimal-spells}
 use Rattle.mc_script.specs.Chains.{◌>>=◌}
-use Rattle.mc_script.specs.Script.{Names, Section}
 use Rattle.mc_script.specs.ScriptWords.{is_label_name, is_body, body_word, variable_word, label_word}
-use Rattle.mc_script_text.specs.Marks.{SpellsMark, mask_of, bound_by}
-use Rattle.mc_script_text.specs.SectionText.{SpellsEntry, SpellsFields, SpellsVariable, SpellsUnique, SpellsAmount, SpellsSection}
-use Rattle.mc_script.specs.WellFormed.{label_names}
-use Rattle.mc_script_text.specs.Steps.{in_front, with_marks, steps_from, labels_from}
 use Rattle.mc_script.specs.Templates.{IsTemplate, has_fields, is_nothing, is_variable, is_amount, is_empty}
 use Rattle.mc_script.specs.WellFormed.{IsStep, AreSteps, AreLabels, IsSection}
-use Rattle.mc_script_text.specs.PrintedScript.{name_at, label_at, item_words, argument_words, mark_words, field_words, step_words, label_lines, step_lines}
-use Rattle.mc_script_text.specs.PrintedScript.{section_lines}
-use Rattle.mc_script_text.proofs.Lists.{three, some-first}
-use Rattle.mc_script_text.proofs.EntryWords.{same-template}
+use Rattle.mc_script.specs.{Script.Names, Script.Section, WellFormed.label_names, Versions.steps_limit}
 use Rattle.mc_script_text.proofs.PrintedLines.{is_whole, are_whole, is_line, are_lines}
 use Rattle.mc_script_text.proofs.PrintedNames.{decimal-whole, named-whole, body-whole, name-has, index-found, label-found, label-whole}
 use Rattle.mc_script_text.proofs.PrintedFlags.{With, both-apart, all-append, each-append, each-cond}
 use Rattle.mc_script_text.proofs.PrintedMarks.{Known, front-name, behind-named, marks_of, marks-spell, marks-together, mask_at, says-mask}
-use Rattle.mc_script_text.proofs.PrintedJumps.{says-bind}
-use Rattle.mc_script_text.proofs.PrintedJumps.{says-jumps}
-use Rattle.std.proofs.lemmas.Bool.Decides.{nat_tests}
-use Rattle.mc_protocol.specs.Spelling.{SpellEach}
-use Rattle.mc_script.specs.Versions.{steps_limit}
+use Rattle.mc_script_text.proofs.{Lists.three, Lists.some-first, EntryWords.same-template, PrintedJumps.says-bind, PrintedJumps.says-jumps}
 
 -- ---- fields
 

@@ -3,9 +3,7 @@ use Rattle.std.proofs.Common.{◌≡◌, ℕ, List, [], ◌∷◌, ◌++◌, cod
 use Rattle.std.proofs.lemmas.Grind.{flat_map-append}
 use Rattle.mc_protocol.specs.declared.actor.Actor.TheVariants as actor
 use Rattle.mc_protocol.specs.Lines.{Words}
-use Rattle.mc_script.specs.declared.section.Budget.{Budget}
-use Rattle.mc_script.specs.declared.version.Version.{Version}
-use Rattle.mc_script.specs.Script.{Names, Section, Script, version_of}
+use Rattle.mc_script.specs.{declared.section.Budget.Budget, declared.version.Version.Version, Script.Names, Script.Section, Script.Script, Script.version_of}
 use Rattle.mc_script_text.specs.ScriptText.{header, names_lines, section_line, end_line}
 use Rattle.mc_script_text.specs.PrintedScript.{line_text, lines_text, section_lines, budget_line, script_text}
 

@@ -1,16 +1,11 @@
 -- What the answer of the reader says: it is a script exactly where the text spells one, and that script is well formed.
 use Rattle.std.proofs.Common.{◌≡◌, ◌≢◌, ℕ, List, Some, None, Result, Ok, Err}
 use Rattle.std.specs.Result.{IfOk, IfErr}
-use Rattle.mc_script_text.specs.Values.{SpaceOrTab, ScriptFault}
+use Rattle.mc_script_text.specs.{Values.SpaceOrTab, Values.ScriptFault, Reading.Says, ScriptText.SpellsScript, Reading.script_in}
 use Rattle.mc_script_text.specs.Values.kind
 use Rattle.mc_protocol.specs.Lines.{words_of_text}
-use Rattle.mc_script_text.specs.Reading.{Says}
-use Rattle.mc_script.specs.Script.{Script}
-use Rattle.mc_script_text.specs.ScriptText.{SpellsScript}
-use Rattle.mc_script_text.specs.Reading.{script_in}
-use Rattle.mc_script.specs.WellFormed.{IsScript}
-use Rattle.mc_script_text.proofs.Formed.{script-formed}
-use Rattle.mc_script_text.proofs.WholeScript.{script-read, script_spelled}
+use Rattle.mc_script.specs.{Script.Script, WellFormed.IsScript}
+use Rattle.mc_script_text.proofs.{Formed.script-formed, WholeScript.script-read, WholeScript.script_spelled}
 
 pub script_formed : (text : List ℕ) (s : Script) → script_in (words_of_text SpaceOrTab text) ≡ Some s → IsScript s
 script_formed text s h = script-formed text s (script_spelled text s h)

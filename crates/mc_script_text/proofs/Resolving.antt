@@ -2,10 +2,8 @@
 use Rattle.std.proofs.Common.{◌≡◌, ℕ, ◌+◌, ◌<◌, true, false, Option, Some, None, List, [], ◌∷◌, ◌++◌}
 use Rattle.std.proofs.Common.{length, drop, get_or, refl, sym, ap, ◌∙◌, arith, length-append, append_assoc}
 use Rattle.std.proofs.lemmas.List.{drop_more}
-use Rattle.mc_script_text.specs.Values.{Entry, Label, Step}
+use Rattle.mc_script_text.specs.{Values.Entry, Values.Label, Values.Step, Steps.step_in, Steps.steps_from, Steps.in_front, Reading.onto, Reading.is_label}
 use Rattle.mc_script_text.specs.Values.entry
-use Rattle.mc_script_text.specs.Steps.{step_in, steps_from, in_front}
-use Rattle.mc_script_text.specs.Reading.{onto, is_label}
 
 onto-push : {A : Type 0} (xs : List A) (x : A) (ys : Option (List A)) → onto (xs ++ x ∷ []) ys ≡ onto xs (in_front (Some x) ys)
 onto-push xs x (Some ys) = ap Some (append_assoc xs (x ∷ []) ys)

@@ -1,25 +1,17 @@
 -- A section is read exactly where its lines spell it.
 use Rattle.std.proofs.Common.{◌≡◌, ℕ, ◌+◌, ◌≤◌, nat_lt, Bool, true, false, ◌&&◌, Option, Some, None, List, [], ◌∷◌, ◌++◌, refl, sym, ap, subst, ◌∙◌}
-use Rattle.std.proofs.Common.{append-nil, append_assoc, arith, length}
-use Rattle.std.specs.List.{list_all}
-use Rattle.std.specs.Str.{bytes_eq}
 use Rattle.std.proofs.lemmas.Bool.{and_parts, and_from, ltb-true, lt-ltb, false_from_ne_true}
-use Rattle.std.proofs.lemmas.Slice.Eq.{bytes_eq-Decides}
+use Rattle.std.proofs.{Common.append-nil, Common.append_assoc, Common.arith, Common.length, lemmas.Slice.Eq.bytes_eq-Decides}
+use Rattle.std.specs.{List.list_all, Str.bytes_eq}
 use Rattle.mc_script_text.specs.Values.{Word, Words, Entry, Budget, Label, Step, Version}
-use Rattle.mc_script_text.specs.Values.entry
-use Rattle.mc_protocol.specs.Lines.{is_only}
-use Rattle.mc_protocol.specs.Names.{is_new, are_distinct}
-use Rattle.mc_protocol.specs.Spelling.{SpellEach}
-use Rattle.mc_script.specs.Script.{Names, Section}
-use Rattle.mc_script_text.specs.SectionText.{SpellsEntry, SpellsSection}
-use Rattle.mc_script.specs.WellFormed.{label_names}
-use Rattle.mc_script.specs.Chains.{◌>>=◌}
 use Rattle.mc_script_text.specs.Reading.{entry_in, entries_in, may_follow, following, step_count, with_label, step_total, section_in}
+use Rattle.mc_script_text.specs.{SectionText.SpellsEntry, SectionText.SpellsSection, Steps.labels_from, Steps.step_in, Steps.steps_from}
+use Rattle.mc_script_text.specs.Values.entry
+use Rattle.mc_protocol.specs.{Lines.is_only, Names.is_new, Names.are_distinct, Spelling.SpellEach}
+use Rattle.mc_script.specs.Chains.{◌>>=◌}
+use Rattle.mc_script.specs.{Script.Names, Script.Section, WellFormed.label_names, Versions.steps_limit}
 use Rattle.mc_script_text.proofs.Outcomes.{then-some, cond-cases, some-same, only-then, front-parts}
-use Rattle.mc_script_text.proofs.Lists.{bytes-same, bytes-swap, twins-push, none-before}
-use Rattle.mc_script_text.proofs.EntryWords.{entry-spelled, entry-read}
-use Rattle.mc_script.specs.Versions.{steps_limit}
-use Rattle.mc_script_text.specs.Steps.{labels_from, step_in, steps_from}
+use Rattle.mc_script_text.proofs.{Lists.bytes-same, Lists.bytes-swap, Lists.twins-push, Lists.none-before, EntryWords.entry-spelled, EntryWords.entry-read}
 
 pub bytes-equal : (xs : Word) → bytes_eq xs xs ≡ true
 bytes-equal xs = (bytes_eq-Decides xs xs).1 refl

@@ -3,27 +3,22 @@ use Rattle.std.proofs.Common.{◌≡◌, ℕ, ◌≤◌, ◌==◌, cond, true, n
 use Rattle.std.proofs.Common.{append_assoc, arith}
 use Rattle.std.specs.Str.{bytes_eq}
 use Rattle.mc_script_text.specs.Values.{Actor, Sections, SpaceOrTab, Word, Words, KEYS_LIMIT, KEY_BYTES_LIMIT, REQUESTS_LIMIT, REQUEST_BYTES_LIMIT, Entry}
-use Rattle.mc_script_text.specs.Values.{NAME_BYTES_LIMIT, FLAGS_LIMIT, VARIABLES_LIMIT, Budget, Version}
-use Rattle.mc_script_text.specs.Values.actor
-use Rattle.mc_script_text.specs.Values.version
-use Rattle.mc_protocol.specs.Lines.{words_of_text, begins_with, is_only}
-use Rattle.mc_protocol.specs.Decimals.{SpellsNumber}
-use Rattle.mc_protocol.specs.Sections as sections
-use Rattle.mc_protocol.specs.Words.{actor_word, verb_of}
-use Rattle.mc_script.specs.Versions.{version_word, flags_limit, steps_limit}
-use Rattle.mc_script.specs.Script.{Names, Section, Script, AreDeclared, section_of, may_be_declared}
 use Rattle.mc_script_text.specs.ScriptText.{SpellsInVersion, SpellsScript, SpellsBudget, header, names_line, names_lines, section_line, end_line, body_lines}
-use Rattle.mc_script_text.specs.ScriptText.{SpellsOneScript}
-use Rattle.mc_script_text.specs.SectionText.{SpellsSection}
-use Rattle.mc_script.specs.Chains.{◌>>=◌}
 use Rattle.mc_script_text.specs.Reading.{entry_in, version_of_word, header_version, header_in, names_in, keys_in, optional_in, line_in, number_in, numbers_in}
 use Rattle.mc_script_text.specs.Reading.{budget_in, all_names_in, next_budget_in, budgets_in, section_line_in, entries_in, ended_in}
-use Rattle.mc_script_text.specs.Reading.{bodies_in, section_in, script_of, resolved_in, script_in}
+use Rattle.mc_script_text.specs.{Values.NAME_BYTES_LIMIT, Values.FLAGS_LIMIT, Values.VARIABLES_LIMIT, Values.Budget, Values.Version, ScriptText.SpellsOneScript}
+use Rattle.mc_script_text.specs.{SectionText.SpellsSection, Reading.bodies_in, Reading.section_in, Reading.script_of, Reading.resolved_in, Reading.script_in}
+use Rattle.mc_script_text.specs.Values.actor
+use Rattle.mc_script_text.specs.Values.version
+use Rattle.mc_protocol.specs.{Lines.words_of_text, Lines.begins_with, Lines.is_only, Decimals.SpellsNumber, Words.actor_word, Words.verb_of}
+use Rattle.mc_protocol.specs.Sections as sections
+use Rattle.mc_script.specs.Versions.{version_word, flags_limit, steps_limit}
+use Rattle.mc_script.specs.Script.{Names, Section, Script, AreDeclared, section_of, may_be_declared}
+use Rattle.mc_script.specs.Chains.{◌>>=◌}
 use Rattle.mc_script_text.proofs.Outcomes.{then-some, cond-cases, some-same, only-then}
-use Rattle.mc_script_text.proofs.FieldWords.{number-spelled, number-read}
 use Rattle.mc_script_text.proofs.Declared.{names-declared, keys-declared, optional-declared, declared-few, declared-within, none-declared, flags-within}
 use Rattle.mc_script_text.proofs.SectionLines.{bytes-equal, only-line, section-spelled, section-read}
-use Rattle.mc_script_text.proofs.Lists.{bytes-same}
+use Rattle.mc_script_text.proofs.{FieldWords.number-spelled, FieldWords.number-read, Lists.bytes-same}
 
 abbrev names_of : List Word → List Word → List Word → Names
 names_of keys flags vars = record { keys = keys; flags = flags; vars = vars }

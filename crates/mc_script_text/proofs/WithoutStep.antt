@@ -1,25 +1,18 @@
 -- The lines of a script less a step are those of the script less that of the step.
 use Rattle.std.proofs.Common.{◌≡◌, ℕ, ◌+◌, ◌<◌, ◌≤◌, zero, suc, Some, List, [], ◌∷◌, length, map, slice_get, refl, ap, subst, ◌∙◌, arith, ◌==◌, nat_lt}
 use Rattle.std.proofs.Common.{nat_le, cond, ◌++◌, codes, sym, append_assoc, length-append}
+use Rattle.std.proofs.{lemmas.Bool.Decides.nat_tests, lemmas.List.Edits.length-remove, lemmas.Bool.le-ltb, lemmas.Bool.ne_eqb, lemmas.List.Sums.sum_by-cons}
 use Rattle.std.specs.List.{remove, count_by}
-use Rattle.std.proofs.lemmas.Bool.Decides.{nat_tests}
-use Rattle.std.proofs.lemmas.List.Edits.{length-remove}
 use Rattle.mc_script_text.specs.Values.{Actor, Verb, Class, Sections, Label, Step, Word, Words}
+use Rattle.mc_script_text.specs.PrintedScript.{name_at, all_flag_words, bind_words, field_words, step_words, label_lines, step_lines}
+use Rattle.mc_script_text.specs.{WithoutStep.HasOtherLines, WithoutStep.StepsLeaveTheOtherLines, Marks.jump_word}
 use Rattle.mc_script_text.specs.Values.actor
 use Rattle.mc_script_text.specs.Values.step
-use Rattle.mc_protocol.specs.Names.{are_distinct}
-use Rattle.mc_protocol.specs.Words.{class_index, verb_word}
-use Rattle.mc_script.specs.Script.{Names, Section, Script, section_of}
-use Rattle.mc_script.specs.WellFormed.{label_names}
+use Rattle.mc_protocol.specs.{Names.are_distinct, Words.class_index, Words.verb_word}
 use Rattle.mc_script.specs.WellFormed.{IsAfter, AreJumps, IsStep, AreSteps, AreLabels, IsSection, IsScript}
 use Rattle.mc_script.specs.WithoutStep.{place_without, label_without, section_without, sections_without, without_step}
-use Rattle.mc_script_text.specs.WithoutStep.{HasOtherLines, StepsLeaveTheOtherLines}
+use Rattle.mc_script.specs.{Script.Names, Script.Section, Script.Script, Script.section_of, WellFormed.label_names, ScriptWords.label_word}
 use Rattle.mc_script.proofs.WithoutStep.{names-stay}
-use Rattle.std.proofs.lemmas.Bool.{le-ltb, ne_eqb}
-use Rattle.std.proofs.lemmas.List.Sums.{sum_by-cons}
-use Rattle.mc_script_text.specs.Marks.{jump_word}
-use Rattle.mc_script_text.specs.PrintedScript.{name_at, all_flag_words, bind_words, field_words, step_words, label_lines, step_lines}
-use Rattle.mc_script.specs.ScriptWords.{label_word}
 
 -- ---- the line of a step
 

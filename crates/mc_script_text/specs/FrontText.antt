@@ -2,8 +2,7 @@
 use Rattle.std.specs.Prelude.{◌≡◌, ℕ, List, [], ◌∷◌, ◌++◌, length, take}
 use Rattle.std.specs.List.{concat}
 use Rattle.bstr.specs.Text.{lines_of}
-use Rattle.mc_protocol.specs.declared.lines.Separator.TheVariants.{SpaceOrTab}
-use Rattle.mc_protocol.specs.Lines.{words_of_text}
+use Rattle.mc_protocol.specs.{declared.lines.Separator.TheVariants.SpaceOrTab, Lines.words_of_text}
 use Rattle.mc_script.specs.Script.{Script}
 use Rattle.mc_script_text.specs.ScriptText.{SpellsScript, end_line}
 

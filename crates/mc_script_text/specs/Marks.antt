@@ -1,17 +1,13 @@
 -- The marks after a request: which words they are, which may stand together, and what they say.
 use Rattle.std.specs.Prelude.{◌≡◌, ℕ, ◌==◌, Bool, true, false, not, ◌&&◌, Option, Some, None, List, [], ◌∷◌, ◌++◌, if◌then◌else◌, ◌^◌}
-use Rattle.std.specs.Int.Bits.{bit_or}
-use Rattle.std.specs.List.{list_all, list_any, fold}
-use Rattle.mc_protocol.specs.Legal.{is_legal, same}
-use Rattle.mc_protocol.specs.Words.{class_word, class_index}
+use Rattle.std.specs.{Int.Bits.bit_or, List.list_all, List.list_any, List.fold}
+use Rattle.mc_protocol.specs.{Legal.is_legal, Legal.same, Words.class_word, Words.class_index, Names.index_of}
 use Rattle.mc_script_text.specs.Values.{Verb, Class, Word, Mark, Sign}
 use Rattle.mc_script_text.specs.Values.class
 use Rattle.mc_script_text.specs.Values.mark
 use Rattle.mc_script_text.specs.Values.sign
 use Rattle.mc_protocol.specs.declared.request.Verb.TheVariants as verb
-use Rattle.mc_protocol.specs.Names.{index_of}
-use Rattle.mc_script.specs.Script.{Names}
-use Rattle.mc_script.specs.WellFormed.{shows_numbers}
+use Rattle.mc_script.specs.{Script.Names, WellFormed.shows_numbers}
 
 -- ---- words
 

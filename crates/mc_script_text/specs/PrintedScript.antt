@@ -1,21 +1,17 @@
 -- The text that is printed of a script.
 use Rattle.std.specs.Prelude.{◌≡◌, ℕ, ◌+◌, ◌==◌, Option, Some, None, List, [], ◌∷◌, ◌++◌, map, get_or, codes, decimal, if◌then◌else◌}
 use Rattle.std.specs.{Int.bit_at, List.flat_map}
-use Rattle.mc_protocol.specs.Fields.{fields_of}
-use Rattle.mc_protocol.specs.Words.{verb_word, actor_word}
+use Rattle.mc_protocol.specs.{Fields.fields_of, Words.verb_word, Words.actor_word}
 use Rattle.mc_script_text.specs.Values.{Actor, Fields, Class, Sections, Word, Words, Sign, Budget, Label, Argument, Step, Template}
+use Rattle.mc_script_text.specs.ScriptText.{SpellsInVersion, SpellsScript, header, names_lines, body_lines}
+use Rattle.mc_script_text.specs.{Marks.sign_byte, Marks.jump_word, Marks.bind_word, SectionText.halt_line}
 use Rattle.mc_script_text.specs.Values.actor
 use Rattle.mc_script_text.specs.Values.fields
 use Rattle.mc_script_text.specs.Values.sign
 use Rattle.mc_script_text.specs.Values.argument
 use Rattle.mc_script_text.specs.Values.step
-use Rattle.mc_script.specs.Script.{Names, Section, Script, version_of}
 use Rattle.mc_script.specs.ScriptWords.{body_word, variable_word, label_word}
-use Rattle.mc_script_text.specs.ScriptText.{SpellsInVersion, SpellsScript, header, names_lines, body_lines}
-use Rattle.mc_script_text.specs.Marks.{sign_byte, jump_word, bind_word}
-use Rattle.mc_script_text.specs.SectionText.{halt_line}
-use Rattle.mc_script.specs.WellFormed.{label_names}
-use Rattle.mc_script.specs.WellFormed.{IsScript}
+use Rattle.mc_script.specs.{Script.Names, Script.Section, Script.Script, Script.version_of, WellFormed.label_names, WellFormed.IsScript}
 
 -- ---- lines
 

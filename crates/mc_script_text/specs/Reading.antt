@@ -4,11 +4,14 @@ use Rattle.std.specs.Prelude.{◌≡◌, ◌≢◌, ℕ, ◌+◌, ◌-◌, ◌==
 use Rattle.std.specs.Prelude.{◌∷◌, ◌++◌, length, take, drop, get_or, codes, if◌then◌else◌, true, flat_map}
 use Rattle.std.specs.List.{list_any, position}
 use Rattle.std.specs.{Result.result_ok, Str.bytes_eq}
-use Rattle.mc_protocol.specs.Fields.{fields_of}
 use Rattle.mc_protocol.specs.Words.{verb_of, class_of_word, actor_word, class_index}
+use Rattle.mc_protocol.specs.{Fields.fields_of, Lines.begins_with, Lines.words_of_text, Lines.is_only, Decimals.MAX_32, Decimals.MAX_64}
+use Rattle.mc_protocol.specs.{Decimals.decimal_in, Names.index_of, Names.is_name, Names.is_new}
 use Rattle.mc_script_text.specs.Values.{Actor, Fields, Verb, KEYS_LIMIT, KEY_BYTES_LIMIT, REQUESTS_LIMIT, REQUEST_BYTES_LIMIT, Word, Words}
 use Rattle.mc_script_text.specs.Values.{Entry, Mark, Sign, ScriptFault, Parts, NAME_BYTES_LIMIT, VARIABLES_LIMIT, Keyword, Budget, Argument}
 use Rattle.mc_script_text.specs.Values.{Template, Version, WordFault, Sections, SpaceOrTab, Class, Label}
+use Rattle.mc_script_text.specs.Marks.{may_stand, are_twins, is_number_jump}
+use Rattle.mc_script_text.specs.Steps.{in_front, labels_from, jump_named, steps_from}
 use Rattle.mc_script_text.specs.Values.fields
 use Rattle.mc_script_text.specs.Values.entry
 use Rattle.mc_script_text.specs.Values.mark
@@ -18,15 +21,9 @@ use Rattle.mc_script_text.specs.Values.keyword
 use Rattle.mc_script_text.specs.Values.argument
 use Rattle.mc_script_text.specs.Values.version
 use Rattle.mc_script_text.specs.Values.actor
-use Rattle.mc_protocol.specs.Lines.{begins_with, words_of_text, is_only}
-use Rattle.mc_protocol.specs.Decimals.{MAX_32, MAX_64, decimal_in}
-use Rattle.mc_protocol.specs.Names.{index_of, is_name, is_new}
 use Rattle.mc_script.specs.Script.{Names, may_be_declared, Section, Script}
-use Rattle.mc_script.specs.ScriptWords.{is_body, is_label_name}
-use Rattle.mc_script_text.specs.Marks.{may_stand, are_twins, is_number_jump}
 use Rattle.mc_script.specs.Chains.{◌>>=◌}
-use Rattle.mc_script.specs.Versions.{flags_limit, steps_limit}
-use Rattle.mc_script_text.specs.Steps.{in_front, labels_from, jump_named, steps_from}
+use Rattle.mc_script.specs.{ScriptWords.is_body, ScriptWords.is_label_name, Versions.flags_limit, Versions.steps_limit}
 
 -- what was returned is what reading gives, unless memory ran out
 abbrev pub Gives : {V : Type 0} → Result V WordFault → Option V → Type 0

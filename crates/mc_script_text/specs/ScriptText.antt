@@ -1,12 +1,11 @@
 -- The text of a script.
 use Rattle.std.specs.Prelude.{◌≡◌, ℕ, ◌≤◌, List, [], ◌∷◌, ◌++◌, length, codes}
 use Rattle.mc_script_text.specs.Values.{Actor, Sections, SpaceOrTab, Word, Words, REQUESTS_LIMIT, REQUEST_BYTES_LIMIT, Budget, Version}
+use Rattle.mc_script_text.specs.SectionText.{SpellsSection}
 use Rattle.mc_script_text.specs.Values.actor
 use Rattle.mc_protocol.specs.{Lines.words_of_text, Decimals.SpellsNumber, Words.actor_word}
 use Rattle.mc_protocol.specs.Sections as sections
-use Rattle.mc_script.specs.Versions.{version_word, flags_limit}
-use Rattle.mc_script.specs.Script.{Names, Script, AreDeclared, section_of}
-use Rattle.mc_script_text.specs.SectionText.{SpellsSection}
+use Rattle.mc_script.specs.{Versions.version_word, Versions.flags_limit, Script.Names, Script.Script, Script.AreDeclared, Script.section_of}
 
 -- ---- declarations
 

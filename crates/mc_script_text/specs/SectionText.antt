@@ -2,17 +2,13 @@
 use Rattle.std.specs.Prelude.{◌≡◌, ℕ, ◌≤◌, true, Some, List, [], ◌∷◌, ◌++◌, map, length, codes}
 use Rattle.mc_protocol.specs.{Fields.fields_of, Words.verb_word, Spelling.SpellEach}
 use Rattle.mc_script_text.specs.Values.{Fields, Word, Words, Entry, Mark, Label, Argument, Template, Version}
+use Rattle.mc_script_text.specs.{Marks.SpellsMark, Marks.may_stand_together, Steps.labels_from, Steps.steps_from}
 use Rattle.mc_script_text.specs.Values.fields
 use Rattle.mc_script_text.specs.Values.entry
 use Rattle.mc_script_text.specs.Values.argument
-use Rattle.mc_protocol.specs.Names.{are_distinct, index_of}
-use Rattle.mc_protocol.specs.Decimals.{SpellsNumber, MAX_32, MAX_64}
-use Rattle.mc_script.specs.Versions.{steps_limit}
-use Rattle.mc_script.specs.Script.{Names, Section}
-use Rattle.mc_script.specs.WellFormed.{label_names}
+use Rattle.mc_protocol.specs.{Names.are_distinct, Names.index_of, Decimals.SpellsNumber, Decimals.MAX_32, Decimals.MAX_64}
 use Rattle.mc_script.specs.ScriptWords.{is_label_name, is_body, body_word, variable_word, label_word}
-use Rattle.mc_script_text.specs.Marks.{SpellsMark, may_stand_together}
-use Rattle.mc_script_text.specs.Steps.{labels_from, steps_from}
+use Rattle.mc_script.specs.{Versions.steps_limit, Script.Names, Script.Section, WellFormed.label_names}
 
 -- ---- `L:`
 

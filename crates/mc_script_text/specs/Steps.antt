@@ -2,12 +2,12 @@
 use Rattle.std.specs.Prelude.{ℕ, ◌+◌, nat_lt, ◌&&◌, Option, Some, None, List, [], ◌∷◌}
 use Rattle.std.specs.{List.position, Str.bytes_eq}
 use Rattle.mc_script_text.specs.Values.{Class, Word, Entry, Mark, Label, Step, Template}
+use Rattle.mc_script_text.specs.Marks.{mask_of, target_of, bound_by}
 use Rattle.mc_script_text.specs.Values.entry
 use Rattle.mc_script_text.specs.Values.sign
 use Rattle.mc_script_text.specs.Values.step
 use Rattle.mc_protocol.specs.Words.{all_classes}
 use Rattle.mc_script.specs.Chains.{◌>>=◌}
-use Rattle.mc_script_text.specs.Marks.{mask_of, target_of, bound_by}
 
 -- the labels of these lines, where `count` steps stand before them: each label's place is that of the next step, or the
 -- section's end

@@ -1,11 +1,8 @@
 -- The lines of a script less one of its steps.
 use Rattle.std.specs.Prelude.{◌≡◌, ℕ, ◌+◌, ◌<◌, nat_le, Some, List, ◌∷◌, ◌++◌, length, slice_get}
 use Rattle.std.specs.Prelude.{count_by}
-use Rattle.mc_script_text.specs.Values.{Actor, Words, Step}
-use Rattle.mc_script_text.specs.PrintedScript.{step_words, section_lines}
-use Rattle.mc_script.specs.Script.{Names, Section, Script, section_of}
-use Rattle.mc_script.specs.WellFormed.{IsScript}
-use Rattle.mc_script.specs.WithoutStep.{without_step}
+use Rattle.mc_script_text.specs.{Values.Actor, Values.Words, Values.Step, PrintedScript.step_words, PrintedScript.section_lines}
+use Rattle.mc_script.specs.{Script.Names, Script.Section, Script.Script, Script.section_of, WellFormed.IsScript, WithoutStep.without_step}
 
 -- the second section has the lines of the first but for that of its step at this place, which has before it a line for
 -- each step before it, and one for each label that doesn't stand after it

@@ -1,9 +1,7 @@
 //! Reads what stands before the sections: the header, the names that are declared, and the budgets.
 
 ghost use Rattle.std.specs.Prelude.{◌≡◌, ◌≤◌, true, false, map, OnOk, OnErr, Option};
-ghost use Rattle.std.specs.List.{list_any};
-ghost use Rattle.std.specs.Result.{result_ok};
-ghost use Rattle.std.specs.Str.{bytes_eq};
+ghost use Rattle.std.specs.{List.list_any, Result.result_ok, Str.bytes_eq};
 ghost use Rattle.mc_protocol.specs.Decimals as decimals;
 ghost use Rattle.mc_script_text.specs.Reading as reading;
 

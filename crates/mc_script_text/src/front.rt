@@ -4,8 +4,7 @@ ghost use Rattle.std.specs.Prelude.{◌≡◌, ◌≢◌, ℕ, IfOk, IfErr};
 ghost use Rattle.std.specs.List.{concat};
 ghost use Rattle.bstr.specs.Text.{lines_of};
 ghost use Rattle.mc_script.specs.Script as spec;
-ghost use Rattle.mc_script_text.specs.FrontText.{SpellsFront};
-ghost use Rattle.mc_script_text.specs.Reading.{is_end, to_end};
+ghost use Rattle.mc_script_text.specs.{FrontText.SpellsFront, Reading.is_end, Reading.to_end};
 ghost use Rattle.mc_script.specs.WellFormed.{IsScript};
 
 use crate::{ScriptFault, ScriptKind, parse};

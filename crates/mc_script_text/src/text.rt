@@ -1,8 +1,7 @@
 //! Reads the text of a script.
 
 ghost use Rattle.std.specs.Prelude.{◌≡◌, ◌≢◌, Some, IfOk, IfErr};
-ghost use Rattle.mc_protocol.specs.declared.lines.Separator.TheVariants.{SpaceOrTab};
-ghost use Rattle.mc_protocol.specs.Lines.{words_of_text};
+ghost use Rattle.mc_protocol.specs.{declared.lines.Separator.TheVariants.SpaceOrTab, Lines.words_of_text};
 ghost use Rattle.mc_script.specs.Script as spec;
 ghost use Rattle.mc_script_text.specs.ScriptText.{SpellsScript};
 ghost use Rattle.mc_script_text.specs.Reading as reading;

@@ -1,7 +1,6 @@
 //! Laws of the texts of scripts.
 
-ghost use Rattle.mc_script_text.specs.FrontText.{FrontsSpellOneScript};
-ghost use Rattle.mc_script_text.specs.ScriptText.{SpellsOneScript};
+ghost use Rattle.mc_script_text.specs.{FrontText.FrontsSpellOneScript, ScriptText.SpellsOneScript};
 
 /// A text spells at most one script.
 pub fn texts_spell_one_script()

@@ -1,12 +1,8 @@
 -- What is served, one part of the bytes after another.
 use Rattle.std.proofs.Common.{◌≡◌, ℕ, ◌+◌, List, [], ◌∷◌, ◌++◌, append_assoc, append-nil, sym, ap, subst, refl, ◌∙◌, arith}
-use Rattle.mc_reader.specs.AskEnds.{AskEnds}
-use Rattle.mc_reader.specs.Asks.{Asking}
-use Rattle.mc_server.specs.Answers.{MayWrite, memory_line}
-use Rattle.mc_server.specs.Asked.{Asks, GoesOn, count_one}
-use Rattle.mc_server.specs.Conversing.{ComesOfPiece}
+use Rattle.mc_reader.specs.{AskEnds.AskEnds, Asks.Asking}
 use Rattle.mc_server.specs.Serving.{AreAnswered, IsAnswered, IsServedTo, IsServedFirst, Serves}
-use Rattle.mc_server.specs.declared.served.Why.{Why}
+use Rattle.mc_server.specs.{Answers.MayWrite, Answers.memory_line, Asked.Asks, Asked.GoesOn, Asked.count_one, Conversing.ComesOfPiece, declared.served.Why.Why}
 use Rattle.mc_server.specs.declared.served.Why.TheVariants as why
 use Rattle.mc_server.proofs.Asking.{asks_longer, asks_one, asks_twice, count_twice}
 

@@ -1,10 +1,8 @@
 -- What is asked, one part of the bytes after another.
 use Rattle.std.proofs.Common.{◌≡◌, ℕ, ◌+◌, Bool, true, false, List, [], ◌∷◌, ◌++◌, append_assoc, sym, ap, subst, refl, ◌∙◌, arith}
+use Rattle.std.proofs.{lemmas.Bool.or_from, lemmas.Bool.or_parts, lemmas.List.Folds.list_any-append}
 use Rattle.std.specs.List.{list_any}
-use Rattle.std.proofs.lemmas.Bool.{or_from, or_parts}
-use Rattle.std.proofs.lemmas.List.Folds.{list_any-append}
-use Rattle.mc_reader.specs.AskEnds.{AskEnds}
-use Rattle.mc_reader.specs.Asks.{Asking, closes}
+use Rattle.mc_reader.specs.{AskEnds.AskEnds, Asks.Asking, Asks.closes}
 use Rattle.mc_server.specs.Asked.{Asks, GoesOn, count}
 
 -- what goes on doesn't close

@@ -1,15 +1,11 @@
 -- The numbers in a store are below its counter, also after a change.
 use Rattle.std.proofs.Common.{◌≡◌, ℕ, ◌+◌, ◌<◌, Bool, true, false, cond, if◌then◌else◌, Option, Some, None, List, IfSome, sym, subst, refl, arith}
-use Rattle.std.specs.Ordering.{nat_cmp, eq_by_cmp}
 use Rattle.std.specs.Cmp.Lexicographic.{slice_cmp, nat_list_cmp_total}
+use Rattle.std.specs.{Ordering.nat_cmp, Ordering.eq_by_cmp, FinMap.get-empty, FinMap.get-insert, FinMap.get-remove}
 use Rattle.std.specs.FinMap as finite_map
-use Rattle.std.specs.FinMap.{get-empty, get-insert, get-remove}
 use Rattle.mc_protocol.specs.declared.request.Request.{Request}
 use Rattle.mc_model.specs.Act as act
-use Rattle.mc_model.specs.Contents.{Contents}
-use Rattle.mc_model.specs.Decide.{change_at}
-use Rattle.mc_model.specs.declared.cache.Item.{Item}
-use Rattle.mc_model.specs.declared.deciding.Change.{Change}
+use Rattle.mc_model.specs.{Contents.Contents, Decide.change_at, declared.cache.Item.Item, declared.deciding.Change.Change}
 use Rattle.mc_model.specs.declared.deciding.Change.TheVariants as change
 use Rattle.mc_server.specs.Stores.{AreBelow, makes_version}
 

@@ -1,21 +1,14 @@
 -- What a store answers is what a caller may answer.
 use Rattle.std.proofs.Common.{◌≡◌, Bool, true, false, ◌&&◌, ◌==◌, cond, Option, Some, Result, Ok, Err, IsErrAnd, List, ℕ, [], ◌∷◌, refl, sym, ap, subst, ◌∙◌}
-use Rattle.std.specs.Cmp.{eq_by_cmp_equiv}
-use Rattle.std.specs.Cmp.Lexicographic.{nat_list_cmp_total}
+use Rattle.std.specs.{Cmp.eq_by_cmp_equiv, Cmp.Lexicographic.nat_list_cmp_total, FinMap.get-insert}
 use Rattle.std.specs.FinMap as finite_map
-use Rattle.std.specs.FinMap.{get-insert}
-use Rattle.mc_protocol.specs.Decimals.{MAX_64}
-use Rattle.mc_protocol.specs.declared.reply.Reply.{Reply}
-use Rattle.mc_protocol.specs.declared.request.Request.{Request}
-use Rattle.mc_protocol.specs.declared.request.Verb.{Verb}
+use Rattle.mc_protocol.specs.{Decimals.MAX_64, declared.reply.Reply.Reply, declared.request.Request.Request, declared.request.Verb.Verb}
 use Rattle.mc_protocol.specs.declared.request.Verb.TheVariants as verb
 use Rattle.mc_model.specs.Act as act
-use Rattle.mc_model.specs.Contents.{Contents}
-use Rattle.mc_model.specs.declared.cache.Item.{Item}
-use Rattle.mc_server.specs.Callers.{MayAnswer}
+use Rattle.mc_model.specs.{Contents.Contents, declared.cache.Item.Item}
 use Rattle.mc_server.specs.Stores.{Stored, Calls, plain, effect_on, makes_version}
-use Rattle.mc_server.specs.declared.store.StoreFault.{StoreFault}
 use Rattle.mc_server.specs.declared.store.StoreFault.TheVariants.{OutOfMemory, NumbersUsedUp}
+use Rattle.mc_server.specs.{Callers.MayAnswer, declared.store.StoreFault.StoreFault}
 
 pub may_answer : (old new : Stored) (request : Request) (result : Result Reply StoreFault) → Calls old request new result → MayAnswer request result
 may_answer old new request (Ok reply) h = (old, h.1)

@@ -2,14 +2,10 @@
 use Rattle.std.proofs.Common.{◌≡◌, ◌≢◌, ℕ, ◌≤◌, Result, Ok, Err, inl, inr, List, [], ◌∷◌, ◌++◌}
 use Rattle.std.proofs.Common.{append_assoc, append-nil, sym, ap, subst, refl, ◌∙◌, arith}
 use Rattle.mc_lane.specs.Streams.{StreamState, no_counts, a_failed_write, Carries}
-use Rattle.mc_reader.specs.AskReading.{Progress}
-use Rattle.mc_reader.specs.Asks.{Asking, Quit, Refused}
-use Rattle.mc_server.specs.Answers.{memory_line}
-use Rattle.mc_server.specs.Asked.{Asks, count}
+use Rattle.mc_reader.specs.{AskReading.Progress, Asks.Asking, Asks.Quit, Asks.Refused}
 use Rattle.mc_server.specs.Conversing.{EndsTalk, last_line, Finishes, IsWrittenTo, AnswersPiece, PutsAnswers}
-use Rattle.mc_server.specs.Puts.{IsPut, IsBroken, WritesAll}
 use Rattle.mc_server.specs.Serving.{IsAnswered, IsServedFirst}
-use Rattle.mc_server.specs.declared.served.Why.{Why}
+use Rattle.mc_server.specs.{Answers.memory_line, Asked.Asks, Asked.count, Puts.IsPut, Puts.IsBroken, Puts.WritesAll, declared.served.Why.Why}
 use Rattle.mc_server.specs.declared.served.Why.TheVariants as why
 use Rattle.mc_server.proofs.Putting.{Carries-written}
 

@@ -2,8 +2,7 @@
 use Rattle.std.specs.Prelude.{◌≡◌, ℕ, ◌+◌, ◌<◌, List, [], ◌∷◌, ◌++◌, length, map, take}
 use Rattle.std.specs.List.{concat}
 use Rattle.std.proofs.Common.{append_assoc, append-nil, ap, sym, ◌∙◌, get_or}
-use Rattle.std.proofs.lemmas.List.{map_more}
-use Rattle.std.proofs.lemmas.List.Folds.{concat-append}
+use Rattle.std.proofs.{lemmas.List.map_more, lemmas.List.Folds.concat-append}
 
 -- the pieces so far, and one more
 pub pieces_more : {X : Type 0} (f : X → List ℕ) (xs : List X) (i : ℕ) (d : X) (old mid new : List ℕ) → i < length xs

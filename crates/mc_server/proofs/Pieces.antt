@@ -1,23 +1,15 @@
 -- What is served of a connection, piece after piece.
 use Rattle.std.proofs.Common.{◌≡◌, ℕ, ◌+◌, ◌<◌, ◌≤◌, Ok, Err, List, [], ◌∷◌, ◌++◌, length, take}
-use Rattle.std.proofs.Common.{append-nil, length-append, sym, ap, subst, refl, arith}
-use Rattle.std.proofs.lemmas.Grind.{common_steps}
-use Rattle.mc_lane.specs.Streams.{StreamState, no_counts, counts_of_read, Carries}
-use Rattle.mc_lane.specs.declared.stream.Counts.{Counts}
+use Rattle.std.proofs.{Common.append-nil, Common.length-append, Common.sym, Common.ap, Common.subst, Common.refl, Common.arith, lemmas.Grind.common_steps}
+use Rattle.mc_lane.specs.{Streams.StreamState, Streams.no_counts, Streams.counts_of_read, Streams.Carries, declared.stream.Counts.Counts}
 use Rattle.mc_lane.proofs.Carried.{Grows-twice}
 use Rattle.mc_reader.specs.AskEnds.{AskEnds, too_long, one_line, with_block, with_skipped, IsAskUnfinished}
-use Rattle.mc_reader.specs.AskReading.{Progress, InLine, HasRead}
-use Rattle.mc_reader.specs.Asks.{Asking}
-use Rattle.mc_reader.specs.Lines.{LF}
+use Rattle.mc_reader.specs.{AskReading.Progress, AskReading.InLine, AskReading.HasRead, Asks.Asking, Lines.LF}
 use Rattle.mc_server.specs.Conversing.{AnswersPiece, Finishes, IsServedSoFar}
-use Rattle.mc_server.specs.Serving.{IsAnswered, ServesStream, counts_of}
-use Rattle.mc_server.specs.declared.served.Why.{Why}
+use Rattle.mc_server.specs.{Serving.IsAnswered, Serving.ServesStream, Serving.counts_of, declared.served.Why.Why}
 use Rattle.mc_server.specs.declared.served.Why.TheVariants as why
 use Rattle.mc_server.proofs.Answered.{answered_none, answered_longer, answered_on, serves_on}
-use Rattle.mc_server.proofs.Asking.{goes_on_twice}
-use Rattle.mc_server.proofs.Ending.{ended}
-use Rattle.mc_server.proofs.Putting.{Carries-none}
-use Rattle.mc_server.proofs.Talking.{new_line, talk_unread}
+use Rattle.mc_server.proofs.{Asking.goes_on_twice, Ending.ended, Putting.Carries-none, Talking.new_line, Talking.talk_unread}
 
 -- ---- what is carried
 

@@ -5,9 +5,7 @@ use Rattle.std.proofs.lemmas.List.{take-append-drop}
 use Rattle.mc_lane.specs.Streams.{StreamState, no_counts, a_failed_write, CanFail, Grows, Carries}
 use Rattle.mc_lane.specs.declared.stream.Counts.{Counts}
 use Rattle.mc_lane.proofs.Carried.{Grows-twice}
-use Rattle.mc_server.specs.Answering.{Is}
-use Rattle.mc_server.specs.Puts.{IsPut, IsBroken, Puts}
-use Rattle.mc_server.specs.declared.served.Why.{Why}
+use Rattle.mc_server.specs.{Answering.Is, Puts.IsPut, Puts.IsBroken, Puts.Puts, declared.served.Why.Why}
 use Rattle.mc_server.specs.declared.served.Why.TheVariants as why
 
 -- one more of each can still be counted

@@ -1,8 +1,7 @@
 -- What is shown of keys, one after another.
 use Rattle.std.proofs.Common.{◌≡◌, ℕ, Bool, Option, List, [], ◌∷◌, ◌++◌, length, take, drop, append_assoc, append-nil, sym, ap, subst, refl, ◌∙◌}
 use Rattle.std.proofs.lemmas.List.{take-append-drop}
-use Rattle.mc_protocol.specs.Lines.{Word, Words}
-use Rattle.mc_protocol.specs.declared.reply.Reply.{Reply}
+use Rattle.mc_protocol.specs.{Lines.Word, Lines.Words, declared.reply.Reply.Reply}
 use Rattle.mc_protocol.specs.declared.reply.Reply.TheVariants as reply
 use Rattle.mc_reader.specs.Asks.{Many}
 use Rattle.mc_server.specs.Answers.{shown, MayShow, MayShowAll, MayBegin}

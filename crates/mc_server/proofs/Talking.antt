@@ -1,28 +1,17 @@
 -- What comes of the bytes of a client, one request after another.
 use Rattle.std.proofs.Common.{◌≡◌, ℕ, ◌+◌, ◌<◌, ◌≤◌, Bool, true, false, if◌then◌else◌, Some, None, Result, Ok, Err}
 use Rattle.std.proofs.Common.{List, [], ◌∷◌, ◌++◌, length, take, drop, append_assoc, sym, ap, subst, refl, ◌∙◌, arith}
-use Rattle.std.proofs.lemmas.List.{take-append-drop}
-use Rattle.std.proofs.lemmas.Bool.{or_from}
+use Rattle.std.proofs.{lemmas.List.take-append-drop, lemmas.Bool.or_from}
 use Rattle.mc_lane.specs.Streams.{StreamState, no_counts, a_failed_write}
-use Rattle.mc_reader.specs.AskEnds.{AskEnds, IsAskUnfinished}
 use Rattle.mc_reader.specs.AskReading.{Progress, InLine, InBlock, Skipping, Over, HasRead, goes_on, IsAskAnswer, FeedsAsk}
 use Rattle.mc_reader.specs.Asks.{Asking, One, Many, Quit, Refused, closes, refusal_closes, ask_of}
-use Rattle.mc_reader.specs.declared.ask.Ask.{Ask}
-use Rattle.mc_reader.specs.declared.ask.Asked.{Asked}
-use Rattle.mc_reader.specs.declared.ask.Asked.TheVariants.{More, Done}
-use Rattle.mc_reader.specs.declared.ask.AskFault.{AskFault}
-use Rattle.mc_reader.specs.declared.ask.Refuse.{Refuse}
-use Rattle.mc_server.specs.Answering.{PutsAnswer}
-use Rattle.mc_server.specs.Answers.{MayWrite, MayBegin}
-use Rattle.mc_server.specs.Asked.{count_one}
-use Rattle.mc_server.specs.Conversing.{why_closed, IsTalk, EndsTalk}
-use Rattle.mc_server.specs.Puts.{IsPut}
-use Rattle.mc_server.specs.Serving.{IsAnswered, IsServedTo, IsServedFirst}
-use Rattle.mc_server.specs.declared.served.Why.{Why}
+use Rattle.mc_reader.specs.{AskEnds.AskEnds, AskEnds.IsAskUnfinished, declared.ask.Ask.Ask, declared.ask.Asked.Asked, declared.ask.Asked.TheVariants.More}
+use Rattle.mc_reader.specs.{declared.ask.Asked.TheVariants.Done, declared.ask.AskFault.AskFault, declared.ask.Refuse.Refuse}
+use Rattle.mc_server.specs.{Answering.PutsAnswer, Answers.MayWrite, Answers.MayBegin, Asked.count_one, Conversing.why_closed, Conversing.IsTalk}
+use Rattle.mc_server.specs.{Conversing.EndsTalk, Puts.IsPut, Serving.IsAnswered, Serving.IsServedTo, Serving.IsServedFirst, declared.served.Why.Why}
 use Rattle.mc_server.specs.declared.served.Why.TheVariants as why
-use Rattle.mc_server.proofs.Asking.{asks_one, goes_on_twice}
-use Rattle.mc_server.proofs.Putting.{IsPut-none, IsPut-and_none, IsPut-twice}
 use Rattle.mc_server.proofs.Answered.{answered_none, answered_one, answered_on, served_to_on, served_first_on}
+use Rattle.mc_server.proofs.{Asking.asks_one, Asking.goes_on_twice, Putting.IsPut-none, Putting.IsPut-and_none, Putting.IsPut-twice}
 
 -- ---- what the reader answers
 

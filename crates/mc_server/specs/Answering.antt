@@ -2,9 +2,7 @@
 use Rattle.std.specs.Prelude.{◌≡◌, ℕ, Result, List, []}
 use Rattle.mc_lane.specs.Streams.{StreamState}
 use Rattle.mc_reader.specs.Asks.{Asking}
-use Rattle.mc_server.specs.Answers.{MayWrite, MayBegin}
-use Rattle.mc_server.specs.Puts.{Puts}
-use Rattle.mc_server.specs.declared.served.Why.{Why}
+use Rattle.mc_server.specs.{Answers.MayWrite, Answers.MayBegin, Puts.Puts, declared.served.Why.Why}
 
 -- this text alone
 abbrev pub Is : List ℕ → List ℕ → Type 0

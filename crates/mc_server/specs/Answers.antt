@@ -1,18 +1,12 @@
 -- What a client may be answered (protocol.txt). The lines of refusals are this project's own.
 use Rattle.std.specs.Prelude.{◌≡◌, Bool, true, false, Ok, Err, List, [], ◌∷◌, ◌++◌, ℕ, codes, if◌then◌else◌, ◌⊎◌}
-use Rattle.mc_protocol.specs.Lines.{Word, Words}
-use Rattle.mc_protocol.specs.Texts.{reply_text, value_text}
-use Rattle.mc_protocol.specs.declared.reply.Reply.{Reply}
-use Rattle.mc_protocol.specs.declared.reply.Reply.TheVariants as reply
-use Rattle.mc_protocol.specs.declared.request.Request.{Request}
-use Rattle.mc_protocol.specs.declared.request.Verb.{Verb}
 use Rattle.mc_protocol.specs.declared.request.Verb.TheVariants.{Get, Gets}
-use Rattle.mc_reader.specs.AskLines.{bare}
-use Rattle.mc_reader.specs.Asks.{Asking, One, Many, Quit, Refused}
-use Rattle.mc_reader.specs.declared.ask.Refuse.{Refuse}
+use Rattle.mc_protocol.specs.{Lines.Word, Lines.Words, Texts.reply_text, Texts.value_text, declared.reply.Reply.Reply}
+use Rattle.mc_protocol.specs.{declared.request.Request.Request, declared.request.Verb.Verb}
+use Rattle.mc_protocol.specs.declared.reply.Reply.TheVariants as reply
 use Rattle.mc_reader.specs.declared.ask.Refuse.TheVariants.{Unknown, BadLine, Expiry, TooLarge, BadChunk, LongLine}
-use Rattle.mc_server.specs.Callers.{MayAnswer}
-use Rattle.mc_server.specs.declared.store.StoreFault.TheVariants.{NumbersUsedUp}
+use Rattle.mc_reader.specs.{AskLines.bare, Asks.Asking, Asks.One, Asks.Many, Asks.Quit, Asks.Refused, declared.ask.Refuse.Refuse}
+use Rattle.mc_server.specs.{Callers.MayAnswer, declared.store.StoreFault.TheVariants.NumbersUsedUp}
 
 -- ---- lines
 

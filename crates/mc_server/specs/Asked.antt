@@ -1,8 +1,7 @@
 -- What the bytes of a client ask, one request after another.
 use Rattle.std.specs.Prelude.{◌≡◌, ℕ, ◌+◌, true, false, List, [], ◌∷◌, ◌++◌}
 use Rattle.std.specs.List.{list_any}
-use Rattle.mc_reader.specs.AskEnds.{AskEnds}
-use Rattle.mc_reader.specs.Asks.{Asking, One, Many, Quit, Refused, closes}
+use Rattle.mc_reader.specs.{AskEnds.AskEnds, Asks.Asking, Asks.One, Asks.Many, Asks.Quit, Asks.Refused, Asks.closes}
 
 -- The bytes ask this, one request after another, and these bytes come after it. Nothing is read after what closes.
 abbrev pub Asks : List ℕ → List Asking → List ℕ → Type 0

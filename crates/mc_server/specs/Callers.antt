@@ -1,10 +1,8 @@
 -- What those that call a server may be answered.
 use Rattle.std.specs.Prelude.{◌≡◌, true, Result, Ok, Err}
-use Rattle.mc_protocol.specs.declared.reply.Reply.{Reply}
-use Rattle.mc_protocol.specs.declared.request.Request.{Request}
-use Rattle.mc_server.specs.Stores.{Stored, effect_on, is_used_up}
-use Rattle.mc_server.specs.declared.store.StoreFault.{StoreFault}
+use Rattle.mc_protocol.specs.{declared.reply.Reply.Reply, declared.request.Request.Request}
 use Rattle.mc_server.specs.declared.store.StoreFault.TheVariants.{OutOfMemory, NumbersUsedUp}
+use Rattle.mc_server.specs.{Stores.Stored, Stores.effect_on, Stores.is_used_up, declared.store.StoreFault.StoreFault}
 
 -- what some store answers to the request
 abbrev pub MayAnswer : Request → Result Reply StoreFault → Type 0

@@ -2,15 +2,10 @@
 use Rattle.std.specs.Prelude.{◌≡◌, ◌≢◌, ℕ, ◌+◌, ◌<◌, ◌≤◌, true, Option, Some, None, Result, Ok, Err}
 use Rattle.std.specs.Prelude.{List, [], ◌++◌, length, drop, ◌⊎◌, if◌then◌else◌}
 use Rattle.mc_lane.specs.Streams.{StreamState, no_counts, Carries}
-use Rattle.mc_reader.specs.AskEnds.{IsAskUnfinished}
-use Rattle.mc_reader.specs.AskReading.{Progress, InLine, HasRead}
 use Rattle.mc_reader.specs.Asks.{Asking, Quit, Refused, refusal_closes}
-use Rattle.mc_reader.specs.declared.ask.Refuse.{Refuse}
-use Rattle.mc_server.specs.Answers.{memory_line}
-use Rattle.mc_server.specs.Asked.{GoesOn}
-use Rattle.mc_server.specs.Puts.{IsPut, IsBroken}
+use Rattle.mc_reader.specs.{AskEnds.IsAskUnfinished, AskReading.Progress, AskReading.InLine, AskReading.HasRead, declared.ask.Refuse.Refuse}
 use Rattle.mc_server.specs.Serving.{IsAnswered, IsServedTo, IsServedFirst, Serves, counts_of}
-use Rattle.mc_server.specs.declared.served.Why.{Why}
+use Rattle.mc_server.specs.{Answers.memory_line, Asked.GoesOn, Puts.IsPut, Puts.IsBroken, declared.served.Why.Why}
 use Rattle.mc_server.specs.declared.served.Why.TheVariants as why
 
 -- why nothing is read after what was asked

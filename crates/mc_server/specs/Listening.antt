@@ -1,7 +1,6 @@
 -- How many connections are served.
 use Rattle.std.specs.Prelude.{◌≡◌, ℕ, ◌+◌, ◌≤◌, ◌⊎◌}
-use Rattle.mc_server.specs.declared.counts.Listened.{Listened}
-use Rattle.mc_server.specs.declared.counts.TheConstants.{MOST_FAILED}
+use Rattle.mc_server.specs.{declared.counts.Listened.Listened, declared.counts.TheConstants.MOST_FAILED}
 
 -- No more are served than were asked for, and each of those was served or refused unless too many accepts failed. Where none was asked
 -- for, nothing is accepted.

@@ -1,8 +1,7 @@
 -- What a version that was made leaves; private contracts alone cite it.
 use Rattle.std.specs.Prelude.{ℕ, Option, Some, None, List}
 use Rattle.std.specs.FinMap as finite_map
-use Rattle.mc_model.specs.Contents.{Contents}
-use Rattle.mc_model.specs.declared.cache.Item.{Item}
+use Rattle.mc_model.specs.{Contents.Contents, declared.cache.Item.Item}
 
 -- the items with the version that was made, if one was, at the key
 abbrev pub with_made : Contents → List ℕ → Option Item → Contents

@@ -1,7 +1,6 @@
 -- What is written of answers, and what of them is held back; private contracts alone cite it.
 use Rattle.std.specs.Prelude.{◌≡◌, Result, Ok, Err, List, [], ◌++◌, ℕ}
-use Rattle.mc_lane.specs.Streams.{StreamState, no_counts, a_failed_write, Carries}
-use Rattle.mc_lane.specs.declared.stream.Counts.{Counts}
+use Rattle.mc_lane.specs.{Streams.StreamState, Streams.no_counts, Streams.a_failed_write, Streams.Carries, declared.stream.Counts.Counts}
 use Rattle.mc_server.specs.declared.served.Why.{Why}
 use Rattle.mc_server.specs.declared.served.Why.TheVariants as why
 

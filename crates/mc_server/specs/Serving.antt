@@ -2,14 +2,9 @@
 use Rattle.std.specs.Prelude.{◌≡◌, ℕ, ◌≤◌, true, List, [], ◌∷◌, ◌++◌, length}
 use Rattle.mc_lane.specs.Streams.{StreamState, no_counts, a_failed_read, a_failed_write, an_end, Carries}
 use Rattle.mc_lane.specs.declared.stream.Counts.{Counts}
-use Rattle.mc_reader.specs.AskEnds.{IsAskUnfinished}
-use Rattle.mc_reader.specs.Asks.{Asking, Quit, Refused, refusal_closes}
-use Rattle.mc_reader.specs.declared.ask.Refuse.{Refuse}
-use Rattle.mc_server.specs.Answers.{MayWrite, MayBegin, memory_line}
-use Rattle.mc_server.specs.Asked.{Asks, GoesOn, count}
-use Rattle.mc_server.specs.declared.limits.TheConstants.{RECEIVED_LIMIT}
-use Rattle.mc_server.specs.declared.served.Served.{Served}
-use Rattle.mc_server.specs.declared.served.Why.{Why}
+use Rattle.mc_reader.specs.{AskEnds.IsAskUnfinished, Asks.Asking, Asks.Quit, Asks.Refused, Asks.refusal_closes, declared.ask.Refuse.Refuse}
+use Rattle.mc_server.specs.{Answers.MayWrite, Answers.MayBegin, Answers.memory_line, Asked.Asks, Asked.GoesOn, Asked.count}
+use Rattle.mc_server.specs.{declared.limits.TheConstants.RECEIVED_LIMIT, declared.served.Served.Served, declared.served.Why.Why}
 use Rattle.mc_server.specs.declared.served.Why.TheVariants as why
 
 -- the texts that answer what is asked, one after another: however they are cut where they are written

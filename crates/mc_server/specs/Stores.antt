@@ -2,13 +2,9 @@
 use Rattle.std.specs.Prelude.{◌≡◌, ℕ, ◌+◌, ◌<◌, ◌==◌, Bool, true, false, is_some, Result, Ok, Err, List, IfSome, ◌&&◌, if◌then◌else◌, refl}
 use Rattle.std.specs.Coded.{Coded, code_by, coded×, coded_ℕ}
 use Rattle.std.specs.FinMap as finite_map
-use Rattle.mc_protocol.specs.declared.reply.Reply.{Reply}
-use Rattle.mc_protocol.specs.declared.request.Request.{Request}
-use Rattle.mc_protocol.specs.Decimals.{MAX_64}
+use Rattle.mc_protocol.specs.{declared.reply.Reply.Reply, declared.request.Request.Request, Decimals.MAX_64}
 use Rattle.mc_model.specs.Act as act
-use Rattle.mc_model.specs.Contents.{Contents, coded_contents}
-use Rattle.mc_model.specs.Decide.{made_by}
-use Rattle.mc_model.specs.declared.act.Choice.{Choice}
+use Rattle.mc_model.specs.{Contents.Contents, Contents.coded_contents, Decide.made_by, declared.act.Choice.Choice}
 use Rattle.mc_server.specs.declared.store.StoreFault.{StoreFault}
 use Rattle.mc_server.specs.declared.store.StoreFault.TheVariants.{OutOfMemory, NumbersUsedUp}
 

@@ -1,8 +1,7 @@
 //! What is written for what a client asks.
 ghost use Rattle.std.specs.Prelude.{◌≡◌, []};
 ghost use Rattle.mc_lane.specs.Streams.{CanFail};
-ghost use Rattle.mc_reader.specs.AskLines.{bare};
-ghost use Rattle.mc_reader.specs.Asks.{ask_of, Many};
+ghost use Rattle.mc_reader.specs.{AskLines.bare, Asks.ask_of, Asks.Many};
 ghost use Rattle.mc_server.specs.Answers as text;
 ghost use Rattle.mc_server.specs.Answering as spec;
 

@@ -1,8 +1,7 @@
 //! The conversation over one connection, piece by piece of what the client sends.
 ghost use Rattle.std.specs.Prelude.{◌≡◌, ◌≢◌, ◌+◌, ◌^◌, ◌<◌, ◌≤◌, [], length, OnOk};
 ghost use Rattle.mc_lane.specs.Streams.{CanFail};
-ghost use Rattle.mc_reader.specs.AskReading.{InLine};
-ghost use Rattle.mc_reader.specs.Asks.{ask_of};
+ghost use Rattle.mc_reader.specs.{AskReading.InLine, Asks.ask_of};
 ghost use Rattle.mc_server.specs.Asked as asked;
 ghost use Rattle.mc_server.specs.Conversing as spec;
 ghost use Rattle.mc_server.specs.declared.served.Why.TheVariants.{WriteFailed};

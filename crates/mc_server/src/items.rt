@@ -1,7 +1,7 @@
 //! What a store holds: a finite map from keys to items, for millions of keys.
 ghost use Rattle.std.specs.Prelude.{◌≡◌, false, OnOk, OnErr};
-ghost use Rattle.std.specs.FinMap as finite_map;
 ghost use Rattle.std.specs.Option.{option_copied};
+ghost use Rattle.std.specs.FinMap as finite_map;
 ghost use Rattle.mc_model.specs.Act as act;
 ghost use Rattle.mc_model.specs.Decide.{change_at, made_by};
 ghost use Rattle.mc_server.specs.Made.{with_made};

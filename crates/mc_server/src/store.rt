@@ -1,9 +1,8 @@
 //! A store: items, and the number of the next version.
 ghost use Rattle.std.specs.Prelude.{◌≡◌, ◌<◌, Bool, false, IsTrue, ℕ, OnOk, OnErr};
-ghost use Rattle.std.specs.FinMap as finite_map;
 ghost use Rattle.std.specs.Option.{option_copied};
-ghost use Rattle.mc_protocol.specs.Decimals.{MAX_64};
-ghost use Rattle.mc_protocol.specs.declared.request.Request.{Request};
+ghost use Rattle.std.specs.FinMap as finite_map;
+ghost use Rattle.mc_protocol.specs.{Decimals.MAX_64, declared.request.Request.Request};
 ghost use Rattle.mc_model.specs.Decide.{change_at};
 ghost use Rattle.mc_server.specs.Stores.{Calls, makes_version, with_change};
 

@@ -1,13 +1,9 @@
 -- Where the keys of the last job are short under a name, those of all jobs are.
 use Rattle.std.proofs.Common.{◌≡◌, ◌↔◌, ℕ, ◌+◌, ◌-◌, ◌<◌, ◌≤◌, ◌^◌, nat_le, true, false, List, [], ◌∷◌, ◌++◌, length, codes, decimal}
-use Rattle.std.proofs.Common.{ap, arith, length-append}
-use Rattle.std.proofs.lemmas.Bool.{le-leb, leb-true, le-ltb, ltb-false}
-use Rattle.std.proofs.lemmas.Fmt.{decimal_digit}
-use Rattle.std.proofs.lemmas.List.Elements.{All-nil, All-cons, All-head}
-use Rattle.mc_protocol.specs.Lines.{Word}
-use Rattle.mc_protocol.specs.declared.limits.TheConstants.{KEY_BYTES_LIMIT}
-use Rattle.mc_settings.specs.JobKeys.{key_name, keys_of, KeysFit}
-use Rattle.mc_settings.specs.Namespaces.{key_under, is_too_long, AreShort}
+use Rattle.std.proofs.{Common.ap, Common.arith, Common.length-append, lemmas.Bool.le-leb, lemmas.Bool.leb-true, lemmas.Bool.le-ltb, lemmas.Bool.ltb-false}
+use Rattle.std.proofs.{lemmas.Fmt.decimal_digit, lemmas.List.Elements.All-nil, lemmas.List.Elements.All-cons, lemmas.List.Elements.All-head}
+use Rattle.mc_protocol.specs.{Lines.Word, declared.limits.TheConstants.KEY_BYTES_LIMIT}
+use Rattle.mc_settings.specs.{JobKeys.key_name, JobKeys.keys_of, JobKeys.KeysFit, Namespaces.key_under, Namespaces.is_too_long, Namespaces.AreShort}
 use Rattle.mc_settings.proofs.MoreDigits.{more-digits}
 
 pub key-length : (job key : ℕ) → key < 10 → 1 + length (decimal job) + 1 + 1 ≡ length (key_name job key)

@@ -1,7 +1,6 @@
 -- A greater number has no fewer digits.
 use Rattle.std.proofs.Common.{ℕ, ◌+◌, ◌/◌, ◌%◌, ◌<◌, ◌≤◌, ◌^◌, ◌≡◌, List, [], ◌∷◌, ◌++◌, length, decimal, ap, arith, ◌∙◌, length-append, ⊎_elim}
-use Rattle.std.proofs.lemmas.Fmt.{decimal_digit, decimal_step, decimal_by_steps}
-use Rattle.std.proofs.lemmas.Bool.{cases_lt}
+use Rattle.std.proofs.{lemmas.Fmt.decimal_digit, lemmas.Fmt.decimal_step, lemmas.Fmt.decimal_by_steps, lemmas.Bool.cases_lt}
 
 length-digit : (n : ℕ) → n < 10 → length (decimal n) ≡ 1
 length-digit n small = ap length (decimal_digit n small)

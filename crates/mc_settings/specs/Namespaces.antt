@@ -1,9 +1,7 @@
 -- The names that keys may be put under, and which keys become too long by it.
 use Rattle.std.specs.Prelude.{◌≡◌, nat_lt, Bool, false, List, ◌++◌, length, codes}
 use Rattle.std.specs.List.{All}
-use Rattle.mc_protocol.specs.Lines.{Word}
-use Rattle.mc_protocol.specs.Names.{is_name}
-use Rattle.mc_protocol.specs.declared.limits.TheConstants.{KEY_BYTES_LIMIT}
+use Rattle.mc_protocol.specs.{Lines.Word, Names.is_name, declared.limits.TheConstants.KEY_BYTES_LIMIT}
 use Rattle.mc_settings.specs.declared.namespace.TheConstants.{NAMESPACE_BYTES_LIMIT}
 
 -- a name that keys may be under: 1 to 38 bytes, each a lower case letter, a digit or a dash

@@ -1,7 +1,6 @@
 //! Names under which the keys of a campaign's jobs are short enough.
 ghost use Rattle.std.specs.Prelude.{◌≡◌, ◌↔◌, ◌+◌, ◌≤◌, ◌^◌, decimal, length, true};
-ghost use Rattle.mc_settings.specs.JobKeys.{key_name};
-ghost use Rattle.mc_settings.specs.JobKeys.{KeysFit};
+ghost use Rattle.mc_settings.specs.{JobKeys.key_name, JobKeys.KeysFit};
 
 use crate::Namespace;
 use itoa::Buffer;

@@ -1,20 +1,16 @@
 -- A part of a timeline is explained where the whole is.
 use Rattle.std.proofs.Common.{◌≡◌, inl, inr, ℕ, suc, Bool, true, false, cond, List, [], ◌∷◌, ◌++◌, map, filter, refl, ap, subst, sym, ◌∙◌}
 use Rattle.mc_history.specs.Distinct.{AreDistinct}
-use Rattle.mc_claims.specs.Explains.{start_contents}
-use Rattle.mc_claims.specs.Replay.{versions}
-use Rattle.mc_timeline.specs.Operations.{Operation, IsLinearization}
+use Rattle.mc_claims.specs.{Explains.start_contents, Replay.versions}
 use Rattle.mc_timeline.specs.Explanations.{Effected, step_of, order_of, IsExplained}
 use Rattle.mc_timeline.specs.Timelines.{is_in_order, ClientNote, Placed, Waiting, placed, operations_in, operations_of}
+use Rattle.mc_timeline.specs.{Operations.Operation, Operations.IsLinearization, Members.IsIn}
 use Rattle.mc_timeline.proofs.Members.{among_kept, kept_among, kept_distinct, mapped_among, mapped_kept}
-use Rattle.mc_timeline.proofs.Restricting.{notes_of}
-use Rattle.mc_timeline.proofs.Retiming.{AllAfter, Rises, SameNotes, explained_elsewhere}
-use Rattle.mc_timeline.proofs.Times.{kept_in_time, linear_in_time, in_time_linear}
-use Rattle.mc_timeline.proofs.Timelines.{placed_rise, notes_placed}
+use Rattle.mc_timeline.proofs.{Restricting.notes_of, Retiming.AllAfter, Retiming.Rises, Retiming.SameNotes, Retiming.explained_elsewhere, Times.kept_in_time}
+use Rattle.mc_timeline.proofs.{Times.linear_in_time, Times.in_time_linear, Timelines.placed_rise, Timelines.notes_placed}
 use Rattle.mc_shrink.specs.Parts.{note_stays, staying_after, part_of, MayGo, PartsAreExplained}
 use Rattle.mc_shrink.proofs.Staying.{placed_part, notes_staying, staying, same_operations}
 use Rattle.mc_shrink.proofs.Unchanged.{Unchanging, replies_stay, versions_stay}
-use Rattle.mc_timeline.specs.Members.{IsIn}
 
 -- ---- the operations that stay
 

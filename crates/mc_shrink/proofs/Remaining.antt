@@ -1,15 +1,13 @@
 -- What is left of notes, note by note.
 use Rattle.std.proofs.Common.{◌≡◌, ◌+◌, ◌<◌, ℕ, suc, Bool, true, false, None, cond, not, eqb, get_or, length, drop}
 use Rattle.std.proofs.Common.{List, [], ◌∷◌, ◌++◌, append-nil, append_assoc, refl, ap, subst, sym, ◌∙◌}
-use Rattle.std.proofs.lemmas.Bool.{and_parts}
-use Rattle.std.proofs.lemmas.List.{drop_more}
+use Rattle.std.proofs.{lemmas.Bool.and_parts, lemmas.List.drop_more}
 use Rattle.mc_linearize.specs.Verdicts.{IsUnexplained}
 use Rattle.mc_model.specs.declared.note.Note.TheVariants as note
 use Rattle.mc_timeline.specs.Rules as rule
 use Rattle.mc_timeline.specs.Timelines.{ClientNote, Waiting, with_waiting, are_in_order}
 use Rattle.mc_timeline.proofs.TimelineOrder.{are_ordered}
-use Rattle.mc_shrink.specs.Parts.{IsPartOf, note_stays, part_after, staying_after, stays_by}
-use Rattle.mc_shrink.specs.Going.{IsLeft}
+use Rattle.mc_shrink.specs.{Parts.IsPartOf, Parts.note_stays, Parts.part_after, Parts.staying_after, Parts.stays_by, Going.IsLeft}
 use Rattle.mc_shrink.proofs.Telling.{may_all_go, first_stays}
 
 -- ---- where all requests stay

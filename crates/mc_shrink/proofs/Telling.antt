@@ -1,16 +1,12 @@
 -- What holds of places holds of the operations that begin there.
 use Rattle.std.proofs.Common.{◌≡◌, ◌+◌, ◌<◌, inl, inr, ℕ, suc, nat_lt, Bool, true, false, cond, not, ◌&&◌, eqb, get_or, length, drop, add-one, Some}
 use Rattle.std.proofs.Common.{List, [], ◌∷◌, ◌++◌, append_assoc, refl, ap, sym, ◌∙◌, arith}
-use Rattle.std.proofs.lemmas.Bool.{and_parts}
-use Rattle.std.proofs.lemmas.List.{drop_more}
+use Rattle.std.proofs.{lemmas.Bool.and_parts, lemmas.List.drop_more}
 use Rattle.mc_protocol.specs.declared.reply.Reply.TheVariants as reply
 use Rattle.mc_model.specs.declared.note.Note.TheVariants as note
-use Rattle.mc_timeline.specs.Members.{IsIn}
-use Rattle.mc_timeline.specs.Operations.{Operation}
-use Rattle.mc_timeline.specs.Explanations.{received}
 use Rattle.mc_timeline.specs.Timelines.{ClientNote, placed, answer_to, operations_in}
-use Rattle.mc_shrink.specs.Parts.{MayGo, is_unchanging, stays_by}
-use Rattle.mc_shrink.specs.Going.{Tells, may_first_go, may_go_from, reply_to}
+use Rattle.mc_timeline.specs.{Members.IsIn, Operations.Operation, Explanations.received}
+use Rattle.mc_shrink.specs.{Parts.MayGo, Parts.is_unchanging, Parts.stays_by, Going.Tells, Going.may_first_go, Going.may_go_from, Going.reply_to}
 
 -- ---- one operation
 

@@ -3,19 +3,13 @@ use Rattle.std.proofs.Common.{◌≡◌, inl, inr, ℕ, Bool, true, false, cond,
 use Rattle.std.proofs.Common.{refl, ap, subst, ◌∙◌}
 use Rattle.std.proofs.lemmas.Bool.{both_ways}
 use Rattle.std.specs.FinMap as finite_map
-use Rattle.mc_protocol.specs.declared.reply.Reply.{Reply}
+use Rattle.mc_protocol.specs.{declared.reply.Reply.Reply, Legal.class_of}
 use Rattle.mc_protocol.specs.declared.reply.Reply.TheVariants as reply
-use Rattle.mc_protocol.specs.Legal.{class_of}
-use Rattle.mc_model.specs.Types.{Request}
-use Rattle.mc_model.specs.declared.cache.Item.{Item}
-use Rattle.mc_model.specs.Contents.{Contents}
 use Rattle.mc_model.specs.Act.{Keeps, Effect, effect_of, with_change}
-use Rattle.mc_model.specs.ActLaws.{reports_version}
+use Rattle.mc_model.specs.{Types.Request, declared.cache.Item.Item, Contents.Contents, ActLaws.reports_version}
 use Rattle.mc_model.proofs.Effects.{Does, answering, removing, putting, does}
-use Rattle.mc_claims.specs.Explains.{IsReceived}
-use Rattle.mc_claims.specs.Replay.{Step, reply_to, after, replay, version_by, versions}
-use Rattle.mc_timeline.specs.Members.{IsIn}
-use Rattle.mc_timeline.specs.Explanations.{Effected, step_of, received, GivesEach}
+use Rattle.mc_claims.specs.{Explains.IsReceived, Replay.Step, Replay.reply_to, Replay.after, Replay.replay, Replay.version_by, Replay.versions}
+use Rattle.mc_timeline.specs.{Members.IsIn, Explanations.Effected, Explanations.step_of, Explanations.received, Explanations.GivesEach}
 use Rattle.mc_shrink.specs.Parts.{says_unchanged, is_unchanging}
 
 -- ---- one step

@@ -3,10 +3,8 @@ use Rattle.std.specs.Prelude.{◌≡◌, ℕ, suc, Bool, true, false, not, Optio
 use Rattle.mc_protocol.specs.declared.reply.Reply.{Reply}
 use Rattle.mc_protocol.specs.declared.reply.Reply.TheVariants as reply
 use Rattle.mc_model.specs.declared.note.Note.TheVariants as note
-use Rattle.mc_timeline.specs.Members.{IsIn}
-use Rattle.mc_timeline.specs.Operations.{Operation}
-use Rattle.mc_timeline.specs.Explanations.{IsExplained, received}
 use Rattle.mc_timeline.specs.Timelines.{ClientNote, Waiting, with_waiting, is_in_order, operations_of}
+use Rattle.mc_timeline.specs.{Members.IsIn, Operations.Operation, Explanations.IsExplained, Explanations.received}
 
 -- ---- requests that may go
 

@@ -1,8 +1,7 @@
 //! Leaves out requests as long as nothing explains the others.
 ghost use Rattle.std.specs.Prelude.{◌≡◌, ◌≤◌, length, true, IfOk, OnOk};
 ghost use Rattle.mc_linearize.specs.Verdicts.{IsUnexplained};
-ghost use Rattle.mc_timeline.specs.Rules.{IsTimeline};
-ghost use Rattle.mc_timeline.specs.Timelines.{restricted};
+ghost use Rattle.mc_timeline.specs.{Rules.IsTimeline, Timelines.restricted};
 ghost use Rattle.mc_shrink.specs.Going as going;
 ghost use Rattle.mc_shrink.specs.Parts as spec;
 

@@ -2,12 +2,9 @@
 use Rattle.std.proofs.Common.{◌≡◌, ℕ, suc, Bool, true, false, cond, eqb, eqb-true, Option, Some, List, [], ◌∷◌, map, filter, refl, ap, ◌∙◌}
 use Rattle.mc_protocol.specs.declared.reply.Reply.{Reply}
 use Rattle.mc_model.specs.declared.note.Note.TheVariants as note
-use Rattle.mc_timeline.specs.Explanations.{received}
-use Rattle.mc_timeline.specs.Operations.{Operation}
-use Rattle.mc_timeline.specs.Rules.{sent_of}
 use Rattle.mc_timeline.specs.Timelines.{ClientNote, answer_to, operations_in, placed}
-use Rattle.mc_stress.specs.Agreement.{sent_by}
-use Rattle.mc_stress.specs.SentFrom.{reply_to, sent_from}
+use Rattle.mc_timeline.specs.{Explanations.received, Operations.Operation, Rules.sent_of}
+use Rattle.mc_stress.specs.{Agreement.sent_by, SentFrom.reply_to, SentFrom.sent_from}
 
 -- the first reply to a client is that of its answer
 reply_is : (client from : ℕ) (notes : List ClientNote) → received (answer_to client (placed from notes)) ≡ reply_to client notes

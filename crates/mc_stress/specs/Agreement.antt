@@ -5,8 +5,7 @@ use Rattle.mc_protocol.specs.declared.fault.Fault.{Fault}
 use Rattle.mc_model.specs.declared.sent.Sent.{Sent}
 use Rattle.mc_lane.specs.Lanes.{LaneRecord}
 use Rattle.mc_recorded.specs.Recorded.{IsRecordedBy}
-use Rattle.mc_timeline.specs.Rules.{IsTimeline, sent_of}
-use Rattle.mc_timeline.specs.Timelines.{ClientNote, operations_of}
+use Rattle.mc_timeline.specs.{Rules.IsTimeline, Rules.sent_of, Timelines.ClientNote, Timelines.operations_of}
 use Rattle.mc_stress.specs.declared.played.Played.{Played}
 
 -- the requests of a client with their replies, in their order

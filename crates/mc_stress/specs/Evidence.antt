@@ -2,19 +2,14 @@
 use Rattle.std.specs.Prelude.{◌≡◌, ℕ, ◌==◌, Bool, true, false, Option, Some, None}
 use Rattle.std.specs.Prelude.{List, [], ◌∷◌, ◌++◌, length, codes, decimal, if◌then◌else◌}
 use Rattle.std.specs.List.{flat_map}
-use Rattle.mc_protocol.specs.Faults.{fault_name, fault_number}
-use Rattle.mc_protocol.specs.declared.fault.Fault.{Fault}
+use Rattle.mc_protocol.specs.{Faults.fault_name, Faults.fault_number, declared.fault.Fault.Fault}
 use Rattle.mc_lane.specs.Lanes.{LaneRecord}
-use Rattle.mc_timeline.specs.Timelines.{ClientNote, restricted}
-use Rattle.mc_timeline.specs.TimelineText.{timeline_text}
-use Rattle.mc_linearize.specs.Verdicts.{IsTrueOfAll, IsUnexplained}
-use Rattle.mc_linearize.specs.declared.verdict.TimelineVerdict.{TimelineVerdict}
+use Rattle.mc_timeline.specs.{Timelines.ClientNote, Timelines.restricted, TimelineText.timeline_text}
+use Rattle.mc_linearize.specs.{Verdicts.IsTrueOfAll, Verdicts.IsUnexplained, declared.verdict.TimelineVerdict.TimelineVerdict}
 use Rattle.mc_linearize.specs.declared.verdict.TimelineVerdict.TheVariants as verdict
 use Rattle.mc_shrink.specs.Parts.{IsPartOf}
-use Rattle.mc_stress.specs.Agreement.{Agree}
 use Rattle.mc_stress.specs.declared.evidence.Evidence.{Evidence}
-use Rattle.mc_stress.specs.declared.played.Played.{Played}
-use Rattle.mc_stress.specs.declared.settings.Judging.{Judging}
+use Rattle.mc_stress.specs.{Agreement.Agree, declared.played.Played.Played, declared.settings.Judging.Judging}
 
 -- the clients that failed
 abbrev pub failed_by : ℕ → Option Fault → List (ℕ × Fault)

@@ -1,9 +1,6 @@
 -- Laws of calls on lanes.
 use Rattle.std.specs.Prelude.{◌≡◌, ℕ, true, Result, List}
-use Rattle.mc_protocol.specs.Lines.{Word}
-use Rattle.mc_protocol.specs.declared.fault.Fault.{Fault}
-use Rattle.mc_protocol.specs.declared.reply.Reply.{Reply}
-use Rattle.mc_protocol.specs.declared.request.Verb.{Verb}
+use Rattle.mc_protocol.specs.{Lines.Word, declared.fault.Fault.Fault, declared.reply.Reply.Reply, declared.request.Verb.Verb}
 use Rattle.mc_lane.specs.Lanes.{LaneRecord, Calls, is_closed}
 
 -- a call on a closed lane changes nothing that it records

@@ -14,7 +14,6 @@ mod player;
 mod playing;
 mod requests;
 mod settings;
-mod socket;
 mod stressing;
 mod totals;
 
@@ -27,5 +26,4 @@ pub use played::Played;
 pub use playing::{Round, RoundError, play_round};
 pub use requests::sent_by;
 pub use settings::{Judging, Stress};
-pub use socket::Socket;
 pub use stressing::play_rounds;

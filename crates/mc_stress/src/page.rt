@@ -9,7 +9,7 @@ use std::time::Duration;
 /// What connects clients to the server that is tested.
 pub trait Network {
     /// What each of them gets.
-    type Connection: Connection + Send;
+    type Connection: Connection;
 
     /// A new connection of the client.
     ///

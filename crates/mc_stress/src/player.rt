@@ -5,9 +5,8 @@ use crate::page::{Network, Page};
 use crate::playing::{Round, RoundError, play_round};
 use crate::requests::sent_by;
 use crate::settings::Stress;
-use crate::socket::Socket;
 use itoa::Buffer;
-use mc_connect::Connection;
+use mc_connect::{Connection, Socket};
 use mc_lane::{Lane, Wire};
 use mc_protocol::{Bytes, Fault, KEY_BYTES_LIMIT, OutOfMemory, append_all};
 use mc_rounds::keys_of;
@@ -15,6 +14,9 @@ use mc_settings::Namespace;
 use std::alloc::{AllocError, Global};
 use std::sync::Wait;
 use std::thread::Threads;
+
+/// The most bytes that a client may receive in a round.
+const RECEIVED_LIMIT: u32 = 16_777_216;
 
 /// The clients of rounds.
 #[derive(Drop)]
@@ -30,7 +32,7 @@ pub(crate) struct Player<'p, 'a, C> {
     sockets: Vec<Option<Socket<C>>>,
 }
 
-impl<'p, 'a, C: Connection + Send> Player<'p, 'a, C> {
+impl<'p, 'a, C: Connection> Player<'p, 'a, C> {
     /// Clients without connections.
     ///
     /// # Errors
@@ -145,7 +147,7 @@ impl<'p, 'a, C: Connection + Send> Player<'p, 'a, C> {
         let mut lanes = Vec::new(self.alloc);
         'sockets: for socket in self.sockets.iter_mut() {
             if let Some(socket) = socket.take() {
-                lanes.push(socket.into_lane(self.alloc))?;
+                lanes.push(Lane::new(self.alloc, Wire::new(socket), RECEIVED_LIMIT))?;
             }
         }
         Ok(lanes)

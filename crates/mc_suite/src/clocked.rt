@@ -61,33 +61,9 @@ impl<'a, R: Net<Stream = TcpStream> + Clock + Sync> Network for ClockedNetwork<'
 
     fn connect(
         &mut self,
-    ) -> Result<Sections<Clocked<'a, R, <TcpNetwork<'a, R> as Network>::Connection>>, Unconnected> {
-        let (rt, times) = (self.rt, &self.slowest.times);
-        let Sections { p, a, b } = self.network.connect()?;
-        Ok(Sections {
-            p: Clocked {
-                rt,
-                stream: p,
-                slowest: &times.p,
-            },
-            a: Clocked {
-                rt,
-                stream: a,
-                slowest: &times.a,
-            },
-            b: Clocked {
-                rt,
-                stream: b,
-                slowest: &times.b,
-            },
-        })
-    }
-
-    fn reconnect(
-        &mut self,
         section: Actor,
     ) -> Result<Clocked<'a, R, <TcpNetwork<'a, R> as Network>::Connection>, Unconnected> {
-        let stream = self.network.reconnect(section)?;
+        let stream = self.network.connect(section)?;
         Ok(Clocked {
             rt: self.rt,
             stream,
@@ -95,15 +71,15 @@ impl<'a, R: Net<Stream = TcpStream> + Clock + Sync> Network for ClockedNetwork<'
         })
     }
 
-    fn quit(
+    fn release(
         &mut self,
-        connections: Sections<Clocked<'a, R, <TcpNetwork<'a, R> as Network>::Connection>>,
+        connections: Sections<Option<Clocked<'a, R, <TcpNetwork<'a, R> as Network>::Connection>>>,
     ) {
         let Sections { p, a, b } = connections;
-        self.network.quit(Sections {
-            p: p.into_stream(),
-            a: a.into_stream(),
-            b: b.into_stream(),
+        self.network.release(Sections {
+            p: p.map(Clocked::into_stream),
+            a: a.map(Clocked::into_stream),
+            b: b.map(Clocked::into_stream),
         });
     }
 }
@@ -123,7 +99,7 @@ impl<'a, R: Net<Stream = TcpStream> + Clock + Sync> Clients for ClockedNetwork<'
         } else {
             Actor::B
         };
-        Network::reconnect(self, section).map_err(|none| none.error)
+        Network::connect(self, section).map_err(|none| none.error)
     }
 }
 
@@ -135,13 +111,15 @@ pub(crate) struct Clocked<'a, R, C> {
     slowest: &'a AtomicU64,
 }
 
-impl<'a, R: Clock, C> Clocked<'a, R, C> {
+impl<'a, R, C> Clocked<'a, R, C> {
     // The connection itself.
     fn into_stream(self) -> C {
         let Clocked { stream, .. } = self;
         stream
     }
+}
 
+impl<'a, R: Clock, C> Clocked<'a, R, C> {
     // A read took this time.
     fn note(&self, begun: Instant) {
         let took = begun.elapsed(self.rt).unwrap_or(Duration::ZERO);

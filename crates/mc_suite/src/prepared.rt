@@ -4,7 +4,7 @@ use crate::names::Names;
 use mc_answers::{Unanswered, load_sound, verify_code};
 use mc_generate::{PutFault, put_under};
 use mc_settings::Namespace;
-use mc_verify::Checked;
+use mc_sound::Checked;
 use std::alloc::{AllocError, Global};
 
 /// Code, and the same under the last name.

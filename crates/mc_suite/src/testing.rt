@@ -145,8 +145,8 @@ fn connect<R: Clock, N: Network>(
 ) -> Result<Result<Option<String>, AllocError>, Unconnected> {
     let version = version_of(rt, alloc, network)?;
     if waits {
-        let _a = network.reconnect(Actor::A)?;
-        let _b = network.reconnect(Actor::B)?;
+        let _a = network.connect(Actor::A)?;
+        let _b = network.connect(Actor::B)?;
     }
     Ok(version)
 }

@@ -26,7 +26,7 @@ pub(crate) fn version_of<R: Clock, N: Network>(
     alloc: Global,
     network: &mut N,
 ) -> Result<Result<Option<String>, AllocError>, Unconnected> {
-    let stream = network.reconnect(Actor::P)?;
+    let stream = network.connect(Actor::P)?;
     let is_asked = match stream.send(ASKED) {
         Ok(count) => count == ASKED.len(),
         Err(_) => false,

@@ -1,17 +1,12 @@
 -- What a cache answers on some keys, whatever is asked on the others.
 use Rattle.std.proofs.Common.{◌≡◌, ◌≢◌, inl, inr, ℕ, Bool, true, false, cond, not, Some, List, [], ◌∷◌, ◌++◌, map, filter}
 use Rattle.std.proofs.Common.{refl, ap, subst, sym, ◌∙◌}
-use Rattle.std.specs.Cmp.Lexicographic.{nat_list_cmp_total, texts_ties}
+use Rattle.std.proofs.{lemmas.List.Elements.filter-append, lemmas.Slice.Eq.bytes_eq-Decides}
+use Rattle.std.specs.{Cmp.Lexicographic.nat_list_cmp_total, Cmp.Lexicographic.texts_ties, FinMap.get-insert, Str.bytes_eq}
 use Rattle.std.specs.FinMap as finite_map
-use Rattle.std.specs.FinMap.{get-insert}
-use Rattle.std.specs.Str.{bytes_eq}
-use Rattle.std.proofs.lemmas.List.Elements.{filter-append}
-use Rattle.std.proofs.lemmas.Slice.Eq.{bytes_eq-Decides}
-use Rattle.mc_model.specs.Act.{Change, Keeps, Puts, Removes, effect_of, effect_by, item_after}
-use Rattle.mc_model.specs.Contents.{Contents}
+use Rattle.mc_model.specs.{Act.Change, Act.Keeps, Act.Puts, Act.Removes, Act.effect_of, Act.effect_by, Act.item_after, Contents.Contents}
 use Rattle.mc_model.proofs.Changes.{get_changed, get_other}
-use Rattle.mc_timeline.specs.Members.{IsIn}
-use Rattle.mc_timeline.specs.Explanations.{Effected, step_of, received, GivesEach}
+use Rattle.mc_timeline.specs.{Members.IsIn, Explanations.Effected, Explanations.step_of, Explanations.received, Explanations.GivesEach}
 use Rattle.mc_claims.specs.Explains.{IsReceived, start_contents, start_item}
 use Rattle.mc_claims.specs.Replay.{Step, reply_to, after, replay, version_by, versions}
 use Rattle.mc_timeline.proofs.Merges.{IsMerge, none, left, right, more_left, more_right}

@@ -1,31 +1,21 @@
 -- What a builder knows once a request began.
 use Rattle.std.proofs.Common.{◌≡◌, ◌≢◌, ◌<◌, ◌+◌, ◌⊎◌, inl, inr, ℕ, Bool, true, false, cond, not, ◌&&◌, ◌||◌, eqb, eqb-true, is_some}
 use Rattle.std.proofs.Common.{Option, Some, None, List, [], ◌∷◌, ◌++◌, slice_set, length, refl, ap, subst, sym, ◌∙◌, arith}
+use Rattle.std.proofs.{lemmas.Bool.leb-false, lemmas.Bool.eqb-false, lemmas.List.append-nil, lemmas.List.length-append, lemmas.List.length-set}
+use Rattle.std.proofs.{lemmas.List.Elements.filter-append, lemmas.List.Folds.list_any-append, lemmas.Slice.Eq.bytes_eq-Decides}
 use Rattle.std.specs.Prelude.{nat_le, if◌then◌else◌}
-use Rattle.std.specs.List.{list_any, slice_get}
-use Rattle.std.specs.Map.{lookup}
-use Rattle.std.specs.Ordering.{nat_cmp}
-use Rattle.std.specs.BTreeSet.{contains}
-use Rattle.std.specs.Str.{bytes_eq}
-use Rattle.std.proofs.lemmas.Bool.{leb-false, eqb-false}
-use Rattle.std.proofs.lemmas.List.{append-nil, length-append, length-set}
-use Rattle.std.proofs.lemmas.List.Elements.{filter-append}
-use Rattle.std.proofs.lemmas.List.Folds.{list_any-append}
-use Rattle.std.proofs.lemmas.Slice.Eq.{bytes_eq-Decides}
+use Rattle.std.specs.{List.list_any, List.slice_get, Map.lookup, Ordering.nat_cmp, BTreeSet.contains, Str.bytes_eq}
 use Rattle.mc_protocol.specs.declared.request.Request.{Request}
 use Rattle.mc_model.specs.declared.note.Note.TheVariants as note
 use Rattle.mc_model.specs.declared.rules.HistoryKind.TheVariants as kind
 use Rattle.mc_model.specs.History.{has_words, is_gets}
 use Rattle.mc_timeline.specs.declared.limits.TheConstants.{CLIENTS_LIMIT, OPERATIONS_LIMIT, TIMELINE_KEYS_LIMIT}
 use Rattle.mc_timeline.specs.declared.key_state.KeyState.{KeyState}
-use Rattle.mc_timeline.specs.Members.{IsIn}
-use Rattle.mc_timeline.specs.Operations.{Operation, on_key}
-use Rattle.mc_timeline.specs.Timelines.{ClientNote, operations_of}
-use Rattle.mc_timeline.specs.Rules as rule
 use Rattle.mc_timeline.specs.RuleState.{shows_it, Knows, Waits, IsNew, Opens, Follows}
-use Rattle.mc_timeline.proofs.Members.{among_parts}
-use Rattle.mc_timeline.proofs.MoreNotes.{unanswered, begun}
+use Rattle.mc_timeline.specs.{Members.IsIn, Operations.Operation, Operations.on_key, Timelines.ClientNote, Timelines.operations_of}
+use Rattle.mc_timeline.specs.Rules as rule
 use Rattle.mc_timeline.proofs.Following.{keep_more, key_known, keys_more, is_known, set_here, set_other}
+use Rattle.mc_timeline.proofs.{Members.among_parts, MoreNotes.unanswered, MoreNotes.begun}
 
 -- no rule is broken: there is room, and the client doesn't wait
 chain : (w f u m s : Bool)

@@ -2,13 +2,11 @@
 use Rattle.std.proofs.Common.{◌≡◌, ◌⊎◌, inl, inr, ℕ, Bool, true, false, is_some, Option, Some, None, List, [], ◌∷◌, ◌++◌}
 use Rattle.std.proofs.Common.{append_assoc, refl, ap, subst, sym, ◌∙◌, arith}
 use Rattle.mc_history.specs.Distinct.{AreDistinct}
-use Rattle.mc_timeline.specs.Members.{IsIn}
 use Rattle.mc_timeline.specs.Operations.{Answer, Operation, CameBefore, IsLinearization}
-use Rattle.mc_timeline.specs.Walks.{CameNoEarlier, NoneCameBefore}
 use Rattle.mc_timeline.specs.Queues.{Queues, joined, IsInTurn, AreInTurn, NoNextCameBefore, MayEnd, WalksByNext, OnlyTheNextMatter}
-use Rattle.mc_timeline.proofs.Members.{among_back, among_parts}
-use Rattle.mc_timeline.proofs.Times.{in_time_linear}
+use Rattle.mc_timeline.specs.{Members.IsIn, Walks.CameNoEarlier, Walks.NoneCameBefore}
 use Rattle.mc_timeline.proofs.Walks.{first_last, rest_linear, more_linear, distinct_others}
+use Rattle.mc_timeline.proofs.{Members.among_back, Members.among_parts, Times.in_time_linear}
 
 -- ---- one client
 

@@ -1,28 +1,18 @@
 -- What a builder knows of the notes, and what each test of it says.
 use Rattle.std.proofs.Common.{◌≡◌, ◌≢◌, ◌<◌, ◌≤◌, ◌⊎◌, inl, inr, ℕ, zero, suc, Bool, true, false, cond, not, ◌&&◌, ◌||◌, eqb, is_some}
 use Rattle.std.proofs.Common.{Option, Some, None, List, [], ◌∷◌, ◌++◌, append_assoc, map, replicate, slice_set, length, refl, ap, subst, sym, ◌∙◌, arith}
+use Rattle.std.proofs.{lemmas.Bool.cases_lt, lemmas.Bool.eqb-true, lemmas.List.append-nil, lemmas.Option.slice_get_past, lemmas.Slice.Eq.bytes_eq-Decides}
 use Rattle.std.specs.Prelude.{if◌then◌else◌}
-use Rattle.std.specs.List.{list_any, slice_get}
-use Rattle.std.specs.Map.{lookup}
-use Rattle.std.specs.Str.{bytes_eq}
-use Rattle.std.proofs.lemmas.Bool.{cases_lt, eqb-true}
-use Rattle.std.proofs.lemmas.List.{append-nil}
-use Rattle.std.proofs.lemmas.Option.{slice_get_past}
-use Rattle.std.proofs.lemmas.Slice.Eq.{bytes_eq-Decides}
+use Rattle.std.specs.{List.list_any, List.slice_get, Map.lookup, Str.bytes_eq}
 use Rattle.mc_protocol.specs.declared.{request.Request.Request}
 use Rattle.mc_protocol.specs.declared.request.Verb.TheVariants as verb
 use Rattle.mc_model.specs.declared.note.Note.TheVariants as note
 use Rattle.mc_model.specs.History.{is_cas, is_gets, shows, shows_number}
-use Rattle.mc_timeline.specs.declared.limits.TheConstants.{CLIENTS_LIMIT}
-use Rattle.mc_timeline.specs.declared.key_state.KeyState.{KeyState}
-use Rattle.mc_timeline.specs.Members.{IsIn}
-use Rattle.mc_timeline.specs.Operations.{Operation, on_key}
-use Rattle.mc_timeline.specs.Timelines.{ClientNote, operations_of}
-use Rattle.mc_timeline.specs.Explanations.{received}
-use Rattle.mc_timeline.specs.Rules as rule
 use Rattle.mc_timeline.specs.RuleState.{knows_number, first_request, is_asked, shows_it, Knows, Waits, request_in, begun_at, Follows}
-use Rattle.mc_timeline.proofs.Members.{among_kept}
-use Rattle.mc_timeline.proofs.MoreNotes.{begin_note}
+use Rattle.mc_timeline.specs.{declared.limits.TheConstants.CLIENTS_LIMIT, declared.key_state.KeyState.KeyState, Members.IsIn, Operations.Operation}
+use Rattle.mc_timeline.specs.{Operations.on_key, Timelines.ClientNote, Timelines.operations_of, Explanations.received}
+use Rattle.mc_timeline.specs.Rules as rule
+use Rattle.mc_timeline.proofs.{Members.among_kept, MoreNotes.begin_note}
 
 -- ---- texts
 

@@ -1,16 +1,12 @@
 -- Operations on all keys have an explanation where those on each key have one.
 use Rattle.std.proofs.Common.{◌≡◌, ◌⊎◌, ◌≤◌, ◌<◌, ◌^◌, inl, inr, ℕ, zero, suc, Bool, true, false, cond, not, is_some}
 use Rattle.std.proofs.Common.{List, [], ◌∷◌, ◌++◌, append_assoc, length, map, filter, refl, ap, subst, sym, ◌∙◌, arith}
+use Rattle.std.proofs.{lemmas.List.Elements.filter-append, lemmas.Slice.Eq.bytes_eq-Decides}
 use Rattle.std.specs.Str.{bytes_eq}
-use Rattle.std.proofs.lemmas.List.Elements.{filter-append}
-use Rattle.std.proofs.lemmas.Slice.Eq.{bytes_eq-Decides}
 use Rattle.mc_history.specs.Distinct.{AreDistinct}
-use Rattle.mc_timeline.specs.Members.{IsIn}
-use Rattle.mc_timeline.specs.Operations.{Operation, IsLinearization, on_key}
 use Rattle.mc_timeline.specs.Explanations.{Effected, step_of, order_of, GivesEach, IsExplained}
-use Rattle.mc_claims.specs.Explains.{start_contents}
-use Rattle.mc_claims.specs.Replay.{replay, versions}
-use Rattle.mc_timeline.specs.Laws.{Locality}
+use Rattle.mc_timeline.specs.{Members.IsIn, Operations.Operation, Operations.IsLinearization, Operations.on_key, Laws.Locality}
+use Rattle.mc_claims.specs.{Explains.start_contents, Replay.replay, Replay.versions}
 use Rattle.mc_timeline.proofs.Members.{among_kept, kept_among, kept_distinct, mapped_among, mapped_kept, among_parts}
 use Rattle.mc_timeline.proofs.Merges.{IsMerge, merged_among, among_left, among_right, merged_distinct, mapped_merge, more_left, more_right, appended}
 use Rattle.mc_timeline.proofs.Times.{InTime, kept_in_time, linear_in_time, in_time_linear, merge_in_time}

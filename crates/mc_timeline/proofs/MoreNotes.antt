@@ -4,9 +4,8 @@ use Rattle.std.proofs.Common.{Option, Some, None, List, [], ◌∷◌, ◌++◌,
 use Rattle.std.specs.List.{slice_get}
 use Rattle.mc_protocol.specs.declared.{request.Request.Request, reply.Reply.Reply}
 use Rattle.mc_model.specs.declared.note.Note.TheVariants as note
-use Rattle.mc_timeline.specs.Members.{IsIn}
-use Rattle.mc_timeline.specs.Operations.{Answer, Operation}
 use Rattle.mc_timeline.specs.Timelines.{ClientNote, Placed, placed, answer_to, operations_in, operations_of}
+use Rattle.mc_timeline.specs.{Members.IsIn, Operations.Answer, Operations.Operation}
 
 pub eqb_turned : (a b : ℕ) → eqb a b ≡ eqb b a
 eqb_turned a b = by (eqb a b) refl (eqb b a) refl

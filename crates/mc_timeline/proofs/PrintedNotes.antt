@@ -1,34 +1,26 @@
 -- The printed text of a timeline, and that it spells the timeline.
 use Rattle.std.proofs.Common.{◌≡◌, ◌<◌, ◌≤◌, ◌^◌, ◌==◌, ℕ, Bool, true, false, not, ◌&&◌, Option, Some, None, List, [], ◌∷◌, ◌++◌}
 use Rattle.std.proofs.Common.{map, codes, decimal, length, refl, sym, ap, ◌∙◌, arith, append_assoc, append-nil, eqb, eqb-true, nat_le}
+use Rattle.std.proofs.lemmas.List.Elements.{All-cons, All-push, All-from_recursion}
+use Rattle.std.proofs.{lemmas.Bool.and_parts, lemmas.Bool.and_from, lemmas.Bool.leb-true, lemmas.Grind.flat_map-append, lemmas.List.Folds.flat_map-map}
 use Rattle.std.specs.Prelude.{if◌then◌else◌}
 use Rattle.std.specs.List.{All, AllByRecursion, flat_map}
-use Rattle.std.proofs.lemmas.Bool.{and_parts, and_from, leb-true}
-use Rattle.std.proofs.lemmas.Grind.{flat_map-append}
-use Rattle.std.proofs.lemmas.List.Elements.{All-cons, All-push, All-from_recursion}
-use Rattle.std.proofs.lemmas.List.Folds.{flat_map-map}
 use Rattle.mc_protocol.specs.declared.{request.Request.Request, reply.Reply.Reply, lines.Separator.TheVariants.Space}
+use Rattle.mc_protocol.specs.Decimals.{MAX_64, is_digit, are_digits}
 use Rattle.mc_protocol.specs.declared.reply.Reply.TheVariants as replies
 use Rattle.mc_protocol.specs.{Lines.Word, Lines.is_skipped, Legal.is_fit}
-use Rattle.mc_protocol.specs.Decimals.{MAX_64, is_digit, are_digits}
 use Rattle.mc_protocol.proofs.Decimals.{decimal-spells}
-use Rattle.mc_model.specs.declared.rules.HistoryKind.{HistoryKind}
+use Rattle.mc_model.specs.Words.{request_words, reply_words, join_words}
+use Rattle.mc_model.specs.{declared.rules.HistoryKind.HistoryKind, WordLaws.is_whole, WordLaws.are_whole, History.has_words}
 use Rattle.mc_model.specs.declared.rules.HistoryKind.TheVariants as kind
 use Rattle.mc_model.specs.declared.note.Note.TheVariants as note
-use Rattle.mc_model.specs.Words.{request_words, reply_words, join_words}
-use Rattle.mc_model.specs.WordLaws.{is_whole, are_whole}
-use Rattle.mc_model.specs.History.{has_words}
 use Rattle.mc_model.proofs.WholeWords.{request-whole, reply-whole}
-use Rattle.mc_history.specs.HistoryText.{end_line}
-use Rattle.mc_history.specs.PrintedHistory.{line_text}
-use Rattle.mc_history.specs.PrintedParts.{MayBeNoted, NoteSpellsItself}
+use Rattle.mc_history.specs.{HistoryText.end_line, PrintedHistory.line_text, PrintedParts.MayBeNoted, PrintedParts.NoteSpellsItself}
 use Rattle.mc_history.proofs.PrintedLines.{IsLine, counts_from, lines_fall_apart, lines_of_items}
 use Rattle.mc_history.proofs.PrintedHistory.{last_line}
-use Rattle.mc_timeline.specs.Operations.{Operation}
-use Rattle.mc_timeline.specs.Timelines.{ClientNote, operations_of}
-use Rattle.mc_timeline.specs.Rules as rule
 use Rattle.mc_timeline.specs.TimelineText.{SpellsClientNote, SpellsTimeline, timeline_header, client_note_words, timeline_text}
-use Rattle.mc_timeline.specs.PrintedNotes.{MaySpellItself, notes_text}
+use Rattle.mc_timeline.specs.{Operations.Operation, Timelines.ClientNote, Timelines.operations_of, PrintedNotes.MaySpellItself, PrintedNotes.notes_text}
+use Rattle.mc_timeline.specs.Rules as rule
 
 -- ---- the text
 

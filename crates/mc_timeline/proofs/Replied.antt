@@ -1,34 +1,22 @@
 -- What a builder knows once a reply came.
 use Rattle.std.proofs.Common.{◌≡◌, ◌≢◌, ◌<◌, ◌≤◌, ◌⊎◌, inl, inr, ℕ, Bool, true, false, cond, not, ◌&&◌, ◌||◌, eqb, eqb-true, eq-eqb, is_some}
 use Rattle.std.proofs.Common.{Option, Some, None, List, [], ◌∷◌, ◌++◌, map, slice_set, length, refl, ap, subst, sym, ◌∙◌, arith}
+use Rattle.std.proofs.{lemmas.Bool.and_parts, lemmas.Bool.cases_lt, lemmas.List.length-map, lemmas.List.length-set, lemmas.Slice.Eq.bytes_eq-Decides}
 use Rattle.std.specs.Prelude.{if◌then◌else◌, ◌==◌, Result, Ok, Err, OnOk}
-use Rattle.std.specs.List.{list_any, slice_get}
-use Rattle.std.specs.Map.{lookup}
-use Rattle.std.specs.Ordering.{nat_cmp}
-use Rattle.std.specs.BTreeSet.{contains}
-use Rattle.std.specs.Str.{bytes_eq}
-use Rattle.std.proofs.lemmas.Bool.{and_parts, cases_lt}
-use Rattle.std.proofs.lemmas.List.{length-map, length-set}
-use Rattle.std.proofs.lemmas.Slice.Eq.{bytes_eq-Decides}
-use Rattle.mc_protocol.specs.declared.{request.Request.Request, request.Verb.Verb, reply.Reply.Reply}
+use Rattle.std.specs.{List.list_any, List.slice_get, Map.lookup, Ordering.nat_cmp, BTreeSet.contains, Str.bytes_eq}
+use Rattle.mc_protocol.specs.{declared.request.Request.Request, declared.request.Verb.Verb, declared.reply.Reply.Reply, Legal.is_fit, Legal.is_fit_for}
 use Rattle.mc_protocol.specs.declared.request.Verb.TheVariants as verb
 use Rattle.mc_protocol.specs.declared.reply.Reply.TheVariants as replies
-use Rattle.mc_protocol.specs.Legal.{is_fit, is_fit_for}
 use Rattle.mc_model.specs.declared.note.Note.TheVariants as note
 use Rattle.mc_model.specs.declared.rules.HistoryKind.TheVariants as kind
 use Rattle.mc_model.specs.History.{is_gets, shows_number}
-use Rattle.mc_timeline.specs.declared.limits.TheConstants.{CLIENTS_LIMIT}
-use Rattle.mc_timeline.specs.declared.key_state.KeyState.{KeyState}
-use Rattle.mc_timeline.specs.Members.{IsIn}
-use Rattle.mc_timeline.specs.Operations.{Answer, Operation, on_key}
-use Rattle.mc_timeline.specs.Timelines.{ClientNote, operations_of}
-use Rattle.mc_timeline.specs.Explanations.{received}
-use Rattle.mc_timeline.specs.Rules as rule
 use Rattle.mc_timeline.specs.RuleState.{is_shown, shown_by, opener_after, opener_of, shows_it, first_request, IsAnswered, Answers, Knows, Waits, Follows}
-use Rattle.mc_timeline.proofs.Members.{among_kept, kept_among, mapped_among}
-use Rattle.mc_timeline.proofs.MoreNotes.{answered, replied}
+use Rattle.mc_timeline.specs.{declared.limits.TheConstants.CLIENTS_LIMIT, declared.key_state.KeyState.KeyState, Members.IsIn, Operations.Answer}
+use Rattle.mc_timeline.specs.{Operations.Operation, Operations.on_key, Timelines.ClientNote, Timelines.operations_of, Explanations.received}
+use Rattle.mc_timeline.specs.Rules as rule
 use Rattle.mc_timeline.proofs.Answered.{waits_for, same_client, on_key_answered, keys_answered, none_left, others_wait}
 use Rattle.mc_timeline.proofs.Following.{keep_more, none_waits, set_here, set_other}
+use Rattle.mc_timeline.proofs.{Members.among_kept, Members.kept_among, Members.mapped_among, MoreNotes.answered, MoreNotes.replied}
 
 -- ---- one key
 

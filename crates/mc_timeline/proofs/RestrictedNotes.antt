@@ -1,19 +1,13 @@
 -- A restriction, note by note.
 use Rattle.std.proofs.Common.{◌≡◌, ◌<◌, ◌≤◌, ◌⊎◌, inl, inr, ℕ, false, get_or, replicate}
 use Rattle.std.proofs.Common.{List, [], ◌∷◌, ◌++◌, refl, ap, subst, sym, ◌∙◌}
-use Rattle.std.specs.Str.{bytes_eq}
-use Rattle.std.proofs.lemmas.Bool.{cases_lt}
 use Rattle.std.proofs.lemmas.List.{get_or_past, get_or-replicate, length-replicate}
-use Rattle.std.proofs.lemmas.Slice.Eq.{bytes_eq-Decides}
-use Rattle.mc_timeline.specs.Members.{IsIn}
-use Rattle.mc_timeline.specs.Operations.{Operation, on_key}
+use Rattle.std.proofs.{lemmas.Bool.cases_lt, lemmas.Slice.Eq.bytes_eq-Decides}
+use Rattle.std.specs.Str.{bytes_eq}
 use Rattle.mc_timeline.specs.Timelines.{ClientNote, Waiting, operations_of, restricted, restricted_after}
-use Rattle.mc_timeline.specs.Restrictions.{HaveKey, waiting_in}
-use Rattle.mc_timeline.specs.Rules.{IsTimeline}
-use Rattle.mc_timeline.proofs.Members.{among_kept, mapped_among}
-use Rattle.mc_timeline.proofs.Retiming.{retimed}
-use Rattle.mc_timeline.proofs.TimelineOrder.{are_ordered}
+use Rattle.mc_timeline.specs.{Members.IsIn, Operations.Operation, Operations.on_key, Restrictions.HaveKey, Restrictions.waiting_in, Rules.IsTimeline}
 use Rattle.mc_timeline.proofs.Timelines.{restricted_clock, restricted_operations}
+use Rattle.mc_timeline.proofs.{Members.among_kept, Members.mapped_among, Retiming.retimed, TimelineOrder.are_ordered}
 
 -- ---- who waits
 

@@ -1,33 +1,21 @@
 -- The restriction of a timeline to a key is a timeline.
 use Rattle.std.proofs.Common.{◌≡◌, ◌≢◌, ◌≤◌, ◌⊎◌, inl, inr, ℕ, suc, Bool, true, false, cond, not, ◌&&◌, ◌||◌, eqb, eqb-true, eq-eqb, is_some}
 use Rattle.std.proofs.Common.{Option, Some, None, List, [], ◌∷◌, ◌++◌, append_assoc, map, length, refl, ap, subst, sym, ◌∙◌, arith}
-use Rattle.std.specs.Prelude.{nat_le, if◌then◌else◌}
-use Rattle.std.specs.List.{list_any}
-use Rattle.std.specs.Str.{bytes_eq}
-use Rattle.std.proofs.lemmas.Bool.{leb-false, lt-leb}
-use Rattle.std.proofs.lemmas.List.{append-nil, length-map}
 use Rattle.std.proofs.lemmas.List.Elements.{filter-append}
-use Rattle.std.proofs.lemmas.Slice.Eq.{bytes_eq-Decides}
+use Rattle.std.proofs.{lemmas.Bool.leb-false, lemmas.Bool.lt-leb, lemmas.List.append-nil, lemmas.List.length-map, lemmas.Slice.Eq.bytes_eq-Decides}
+use Rattle.std.specs.Prelude.{nat_le, if◌then◌else◌}
+use Rattle.std.specs.{List.list_any, Str.bytes_eq}
 use Rattle.mc_protocol.specs.declared.{request.Request.Request, request.Verb.Verb, reply.Reply.Reply}
-use Rattle.mc_model.specs.declared.rules.HistoryKind.{HistoryKind}
+use Rattle.mc_model.specs.{declared.rules.HistoryKind.HistoryKind, History.has_words, History.is_cas}
 use Rattle.mc_model.specs.declared.note.Note.TheVariants as note
 use Rattle.mc_model.specs.declared.rules.HistoryKind.TheVariants as kind
-use Rattle.mc_model.specs.History.{has_words, is_cas}
 use Rattle.mc_timeline.specs.declared.limits.TheConstants.{CLIENTS_LIMIT, OPERATIONS_LIMIT, TIMELINE_KEYS_LIMIT}
-use Rattle.mc_timeline.specs.Members.{IsIn}
-use Rattle.mc_timeline.specs.Operations.{Answer, Operation, on_key}
 use Rattle.mc_timeline.specs.Timelines.{ClientNote, Waiting, operations_of, is_on_key, waiting_after, restricted_after, restricted}
+use Rattle.mc_timeline.specs.{Members.IsIn, Operations.Answer, Operations.Operation, Operations.on_key, RuleState.shows_it, Laws.RestrictionsAreTimelines}
 use Rattle.mc_timeline.specs.Rules as rule
-use Rattle.mc_timeline.specs.RuleState.{shows_it}
-use Rattle.mc_timeline.specs.Laws.{RestrictionsAreTimelines}
-use Rattle.mc_timeline.proofs.Members.{among_parts}
-use Rattle.mc_timeline.proofs.MoreNotes.{unanswered, answered, begun, replied}
-use Rattle.mc_timeline.proofs.Following.{keep_more, shown_on}
-use Rattle.mc_timeline.proofs.Begun.{room_and_free, none_of}
-use Rattle.mc_timeline.proofs.Answered.{none_left, others_wait}
-use Rattle.mc_timeline.proofs.Retiming.{retimed}
-use Rattle.mc_timeline.proofs.Timelines.{restricted_clock, restricted_operations}
-use Rattle.mc_timeline.proofs.TimelineOrder.{are_ordered}
+use Rattle.mc_timeline.proofs.{Members.among_parts, MoreNotes.unanswered, MoreNotes.answered, MoreNotes.begun, MoreNotes.replied, Following.keep_more}
+use Rattle.mc_timeline.proofs.{Following.shown_on, Begun.room_and_free, Begun.none_of, Answered.none_left, Answered.others_wait, Retiming.retimed}
+use Rattle.mc_timeline.proofs.{Timelines.restricted_clock, Timelines.restricted_operations, TimelineOrder.are_ordered}
 
 -- ---- the notes of a key and one more
 

@@ -4,9 +4,8 @@ use Rattle.std.proofs.Common.{List, [], ◌∷◌, refl, ap, sym, ◌∙◌}
 use Rattle.std.proofs.lemmas.Bool.{and_parts}
 use Rattle.std.specs.Str.{bytes_eq}
 use Rattle.mc_model.specs.declared.note.Note.TheVariants as note
-use Rattle.mc_timeline.specs.Operations.{on_key}
 use Rattle.mc_timeline.specs.Timelines.{ClientNote, Placed, Waiting, with_waiting, are_in_order, answer_to, operations_in}
-use Rattle.mc_timeline.specs.Timelines.{is_on_key, waiting_after, restricted_after}
+use Rattle.mc_timeline.specs.{Operations.on_key, Timelines.is_on_key, Timelines.waiting_after, Timelines.restricted_after}
 
 abbrev pub notes_of : List Placed → List ClientNote
 notes_of [] = []

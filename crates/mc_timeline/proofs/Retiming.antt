@@ -3,17 +3,13 @@ use Rattle.std.proofs.Common.{◌≡◌, ◌⊎◌, ◌<◌, ◌≤◌, ◌^◌,
 use Rattle.std.proofs.Common.{Option, Some, None, List, [], ◌∷◌, map, refl, ap, subst, sym, ◌∙◌, arith}
 use Rattle.std.proofs.lemmas.Bool.{cases_order}
 use Rattle.mc_history.specs.Distinct.{AreDistinct}
-use Rattle.mc_timeline.specs.Members.{IsIn}
 use Rattle.mc_timeline.specs.Operations.{Answer, Operation, IsLinearization}
+use Rattle.mc_timeline.specs.Explanations.{Effected, step_of, order_of, received, GivesEach, Explains, IsExplained}
+use Rattle.mc_timeline.specs.{Members.IsIn, Timelines.Placed, Timelines.answer_to, Timelines.operations_in, Walks.CameNoEarlier, Walks.NoneCameBefore}
 use Rattle.mc_protocol.specs.declared.reply.Reply.{Reply}
 use Rattle.mc_model.specs.declared.note.Note.TheVariants as note
-use Rattle.mc_timeline.specs.Explanations.{Effected, step_of, order_of, received, GivesEach, Explains, IsExplained}
-use Rattle.mc_claims.specs.Explains.{IsReceived, start_contents}
-use Rattle.mc_claims.specs.Replay.{replay, versions}
-use Rattle.mc_timeline.proofs.Members.{absent, is_absent, mapped_among}
-use Rattle.mc_timeline.specs.Timelines.{Placed, answer_to, operations_in}
-use Rattle.mc_timeline.specs.Walks.{CameNoEarlier, NoneCameBefore}
-use Rattle.mc_timeline.proofs.Times.{KeepsTime, in_time_linear, linear_in_time}
+use Rattle.mc_claims.specs.{Explains.IsReceived, Explains.start_contents, Replay.replay, Replay.versions}
+use Rattle.mc_timeline.proofs.{Members.absent, Members.is_absent, Members.mapped_among, Times.KeepsTime, Times.in_time_linear, Times.linear_in_time}
 
 -- ---- other times
 

@@ -1,18 +1,14 @@
 -- Timelines are in order.
 use Rattle.std.proofs.Common.{◌≡◌, ◌≢◌, ℕ, Bool, true, false, cond, not, ◌&&◌, eqb, eqb-true, eq-eqb, is_some}
 use Rattle.std.proofs.Common.{None, List, [], ◌∷◌, ◌++◌, map, length, refl, ap, subst, sym, ◌∙◌}
-use Rattle.std.proofs.lemmas.Bool.{and_from}
-use Rattle.std.proofs.lemmas.List.{append-nil}
-use Rattle.std.proofs.lemmas.List.Elements.{filter-append}
+use Rattle.std.proofs.{lemmas.Bool.and_from, lemmas.List.append-nil, lemmas.List.Elements.filter-append}
 use Rattle.mc_protocol.specs.declared.{request.Request.Request, reply.Reply.Reply}
 use Rattle.mc_model.specs.declared.note.Note.TheVariants as note
-use Rattle.mc_timeline.specs.Operations.{Answer, Operation}
 use Rattle.mc_timeline.specs.Timelines.{ClientNote, Waiting, with_waiting, are_in_order, operations_of}
+use Rattle.mc_timeline.specs.{Operations.Answer, Operations.Operation, Laws.TimelinesAreInOrder}
 use Rattle.mc_timeline.specs.Rules as rule
-use Rattle.mc_timeline.specs.Laws.{TimelinesAreInOrder}
 use Rattle.mc_timeline.proofs.MoreNotes.{unanswered, answered, begun, replied}
-use Rattle.mc_timeline.proofs.Begun.{room_and_free, none_of}
-use Rattle.mc_timeline.proofs.Answered.{none_left, others_wait}
+use Rattle.mc_timeline.proofs.{Begun.room_and_free, Begun.none_of, Answered.none_left, Answered.others_wait}
 
 abbrev Tells : Waiting → List ClientNote → Type 0
 Tells waits notes = (client : ℕ) → waits client ≡ not (rule.is_unused (rule.waiting_of client (operations_of notes)))

@@ -1,13 +1,10 @@
 -- A timeline is explained exactly where its restriction to each key is.
 use Rattle.std.proofs.Common.{◌≡◌, ◌<◌, ℕ, suc, Bool, true, false, cond, List, [], ◌∷◌, map, refl, ap, subst, sym, ◌∙◌, arith}
-use Rattle.mc_timeline.specs.Operations.{on_key}
-use Rattle.mc_timeline.specs.Explanations.{Effected, Explains, IsExplained}
 use Rattle.mc_timeline.specs.Timelines.{is_in_order, ClientNote, Placed, Waiting, placed, is_on_key, waiting_after, operations_in, operations_of, restricted}
-use Rattle.mc_timeline.specs.Laws.{LocalityOfTimelines}
+use Rattle.mc_timeline.specs.{Operations.on_key, Explanations.Effected, Explanations.Explains, Explanations.IsExplained, Laws.LocalityOfTimelines}
 use Rattle.mc_timeline.proofs.Restricting.{notes_of, kept_after, notes_kept, same_operations}
 use Rattle.mc_timeline.proofs.Retiming.{AllAfter, Rises, SameNotes, Shows, retimed, retimed_effected, clock_of, clock_shows, retimed_operations}
-use Rattle.mc_timeline.proofs.Retiming.{explained_elsewhere, explains_elsewhere}
-use Rattle.mc_timeline.proofs.Joining.{is_local}
+use Rattle.mc_timeline.proofs.{Retiming.explained_elsewhere, Retiming.explains_elsewhere, Joining.is_local}
 
 -- ---- places
 

@@ -3,10 +3,8 @@ use Rattle.std.proofs.Common.{◌≡◌, ◌<◌, ◌≤◌, ◌+◌, ◌⊎◌,
 use Rattle.std.proofs.Common.{List, [], ◌∷◌, ◌++◌, append_assoc, length, filter, refl, ap, subst, sym, arith}
 use Rattle.std.proofs.lemmas.Bool.{cases_lt}
 use Rattle.mc_history.specs.Distinct.{AreDistinct}
-use Rattle.mc_timeline.specs.Members.{IsIn}
 use Rattle.mc_timeline.specs.Operations.{Answer, Operation, CameBefore, IsLinearization}
-use Rattle.mc_timeline.specs.Explanations.{Effected, order_of}
-use Rattle.mc_timeline.specs.Walks.{CameNoEarlier, NoneCameBefore}
+use Rattle.mc_timeline.specs.{Members.IsIn, Explanations.Effected, Explanations.order_of, Walks.CameNoEarlier, Walks.NoneCameBefore}
 use Rattle.mc_timeline.proofs.Members.{among_back, among_parts, in_one_part}
 use Rattle.mc_timeline.proofs.Merges.{IsMerge, none, left, right, all_left, all_right}
 

@@ -1,9 +1,8 @@
 -- Linearizations, operation by operation.
 use Rattle.std.proofs.Common.{◌≡◌, ◌⊎◌, inl, inr, Bool, true, false, is_some, List, [], ◌∷◌, ◌++◌, refl, ap, subst, sym}
 use Rattle.mc_history.specs.Distinct.{AreDistinct}
-use Rattle.mc_timeline.specs.Members.{IsIn}
-use Rattle.mc_timeline.specs.Operations.{Operation, CameBefore, IsLinearization}
 use Rattle.mc_timeline.specs.Walks.{CameNoEarlier, NoneCameBefore, Walks, LinearizationsAreWalks}
+use Rattle.mc_timeline.specs.{Members.IsIn, Operations.Operation, Operations.CameBefore, Operations.IsLinearization}
 use Rattle.mc_timeline.proofs.Members.{absent, is_absent, among_back}
 use Rattle.mc_timeline.proofs.Times.{came_when, last_among, last_if_each, in_time_linear, linear_in_time}
 

@@ -3,10 +3,8 @@ use Rattle.std.specs.Prelude.{◌<◌, ◌^◌, ℕ, Option, Some, None, List, [
 use Rattle.mc_protocol.specs.declared.reply.Reply.{Reply}
 use Rattle.mc_model.specs.declared.act.Choice.{Choice}
 use Rattle.mc_history.specs.Distinct.{AreDistinct}
-use Rattle.mc_claims.specs.Explains.{IsReceived, start_contents}
-use Rattle.mc_claims.specs.Replay.{Step, replay, versions}
-use Rattle.mc_timeline.specs.Members.{IsIn}
-use Rattle.mc_timeline.specs.Operations.{Answer, Operation, IsLinearization}
+use Rattle.mc_claims.specs.{Explains.IsReceived, Explains.start_contents, Replay.Step, Replay.replay, Replay.versions}
+use Rattle.mc_timeline.specs.{Members.IsIn, Operations.Answer, Operations.Operation, Operations.IsLinearization}
 
 -- an operation that takes effect, what is chosen, and the number of the version that it makes
 pub record Effected : Type 0 where

@@ -1,10 +1,7 @@
 -- The locality of explanations (Herlihy and Wing, 1990).
 use Rattle.std.specs.Prelude.{◌≡◌, ℕ, true, ◌↔◌, List}
-use Rattle.mc_timeline.specs.Members.{IsIn}
-use Rattle.mc_timeline.specs.Operations.{Operation, on_key}
 use Rattle.mc_timeline.specs.Timelines.{ClientNote, is_in_order, operations_of, restricted}
-use Rattle.mc_timeline.specs.Explanations.{IsExplained}
-use Rattle.mc_timeline.specs.Rules.{IsTimeline}
+use Rattle.mc_timeline.specs.{Members.IsIn, Operations.Operation, Operations.on_key, Explanations.IsExplained, Rules.IsTimeline}
 
 -- operations have an explanation exactly if those on each of their keys have one
 abbrev pub Locality : Type 0

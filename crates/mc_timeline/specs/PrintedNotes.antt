@@ -1,10 +1,8 @@
 -- What is printed of the notes of a timeline. Only private contracts cite these.
 use Rattle.std.specs.Prelude.{◌<◌, ◌^◌, ℕ, List}
 use Rattle.std.specs.List.{flat_map}
-use Rattle.mc_history.specs.PrintedHistory.{line_text}
-use Rattle.mc_history.specs.PrintedParts.{MayBeNoted, NoteSpellsItself}
-use Rattle.mc_timeline.specs.Timelines.{ClientNote}
-use Rattle.mc_timeline.specs.TimelineText.{client_note_words}
+use Rattle.mc_history.specs.{PrintedHistory.line_text, PrintedParts.MayBeNoted, PrintedParts.NoteSpellsItself}
+use Rattle.mc_timeline.specs.{Timelines.ClientNote, TimelineText.client_note_words}
 
 -- the client's number fits, and the words that are printed of the note spell it, if it may stand in a history
 abbrev pub MaySpellItself : ClientNote → Type 0

@@ -1,8 +1,6 @@
 -- What is so of the restriction of a timeline to a key.
 use Rattle.std.specs.Prelude.{◌≡◌, ℕ, Bool, false, get_or, List}
-use Rattle.mc_timeline.specs.Members.{IsIn}
-use Rattle.mc_timeline.specs.Operations.{Operation}
-use Rattle.mc_timeline.specs.Timelines.{Waiting}
+use Rattle.mc_timeline.specs.{Members.IsIn, Operations.Operation, Timelines.Waiting}
 
 -- each of the operations is on the key
 abbrev pub HaveKey : List ℕ → List Operation → Type 0

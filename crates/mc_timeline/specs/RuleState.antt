@@ -2,21 +2,14 @@
 -- notes.
 use Rattle.std.specs.Prelude.{◌≡◌, ◌==◌, ◌<◌, ◌+◌, ◌&&◌, ◌||◌, ◌⊎◌, ℕ, Bool, true, false, eqb, cond, Option, Some, None, is_some}
 use Rattle.std.specs.Prelude.{List, [], ◌∷◌, length, slice_get, bytes_eq}
-use Rattle.std.specs.List.{list_any}
-use Rattle.std.specs.Map.{lookup}
-use Rattle.std.specs.Ordering.{nat_cmp}
-use Rattle.std.specs.BTreeSet.{contains}
+use Rattle.std.specs.{List.list_any, Map.lookup, Ordering.nat_cmp, BTreeSet.contains}
 use Rattle.mc_protocol.specs.declared.{request.Request.Request, reply.Reply.Reply}
 use Rattle.mc_model.specs.declared.note.Note.TheVariants as note
 use Rattle.mc_protocol.specs.declared.reply.Reply.TheVariants as replies
 use Rattle.mc_model.specs.History.{is_gets, shows_number}
-use Rattle.mc_timeline.specs.declared.limits.TheConstants.{CLIENTS_LIMIT}
-use Rattle.mc_timeline.specs.declared.key_state.KeyState.{KeyState}
-use Rattle.mc_timeline.specs.Members.{IsIn}
-use Rattle.mc_timeline.specs.Operations.{Operation, on_key}
-use Rattle.mc_timeline.specs.Timelines.{ClientNote, operations_of}
-use Rattle.mc_timeline.specs.Explanations.{received}
-use Rattle.mc_timeline.specs.Rules.{IsTimeline, keys_of, waiting_of}
+use Rattle.mc_timeline.specs.{declared.limits.TheConstants.CLIENTS_LIMIT, declared.key_state.KeyState.KeyState, Members.IsIn}
+use Rattle.mc_timeline.specs.{Operations.Operation, Operations.on_key, Timelines.ClientNote, Timelines.operations_of, Explanations.received}
+use Rattle.mc_timeline.specs.{Rules.IsTimeline, Rules.keys_of, Rules.waiting_of}
 
 -- the client of the operation, if it waits for the reply
 abbrev pub opener_of : Operation → Option ℕ

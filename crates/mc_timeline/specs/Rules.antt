@@ -2,17 +2,14 @@
 use Rattle.std.specs.Prelude.{◌≡◌, ℕ, nat_le, Bool, true, false, not, ◌&&◌, ◌||◌, eqb, Option, Some, None, is_some}
 use Rattle.std.specs.Prelude.{List, [], ◌∷◌, ◌++◌, length, map, filter, if◌then◌else◌, bytes_eq}
 use Rattle.std.specs.List.{list_any}
-use Rattle.mc_protocol.specs.declared.{request.Request.Request, request.Verb.Verb, reply.Reply.Reply}
+use Rattle.mc_protocol.specs.{declared.request.Request.Request, declared.request.Verb.Verb, declared.reply.Reply.Reply, Legal.is_fit}
 use Rattle.mc_protocol.specs.declared.request.Verb.TheVariants as verb
-use Rattle.mc_protocol.specs.Legal.{is_fit}
 use Rattle.mc_model.specs.declared.{sent.Sent.Sent, rules.HistoryKind.HistoryKind}
+use Rattle.mc_model.specs.History.{has_words, is_delete, is_seen}
 use Rattle.mc_model.specs.declared.note.Note.TheVariants as note
 use Rattle.mc_model.specs.declared.rules.HistoryKind.TheVariants as kind
-use Rattle.mc_model.specs.History.{has_words, is_delete, is_seen}
 use Rattle.mc_timeline.specs.declared.limits.TheConstants.{CLIENTS_LIMIT, OPERATIONS_LIMIT, TIMELINE_KEYS_LIMIT}
-use Rattle.mc_timeline.specs.Operations.{Operation, on_key}
-use Rattle.mc_timeline.specs.Timelines.{ClientNote, operations_of}
-use Rattle.mc_timeline.specs.Explanations.{received}
+use Rattle.mc_timeline.specs.{Operations.Operation, Operations.on_key, Timelines.ClientNote, Timelines.operations_of, Explanations.received}
 
 -- ---- TooMany
 

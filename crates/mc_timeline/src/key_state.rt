@@ -1,7 +1,6 @@
 //! What the rules need to know of a key.
 ghost use Rattle.std.specs.Prelude.{◌≡◌, ◌||◌, ℕ, false, Some, OnOk, OnErr};
-ghost use Rattle.std.specs.Ordering.{nat_cmp};
-ghost use Rattle.std.specs.BTreeSet.{contains};
+ghost use Rattle.std.specs.{Ordering.nat_cmp, BTreeSet.contains};
 ghost use Rattle.mc_timeline.specs.RuleState.{is_shown, opener_after};
 
 use mc_protocol::OutOfMemory;

@@ -6,8 +6,7 @@ ghost use Rattle.mc_timeline.specs.Laws.{
   RestrictionsKeepOrder,
   TimelinesAreInOrder,
 };
-ghost use Rattle.mc_timeline.specs.Queues.{OnlyTheNextMatter, TimelinesAreWalked};
-ghost use Rattle.mc_timeline.specs.Walks.{LinearizationsAreWalks};
+ghost use Rattle.mc_timeline.specs.{Queues.OnlyTheNextMatter, Queues.TimelinesAreWalked, Walks.LinearizationsAreWalks};
 
 /// Operations have an explanation exactly if those on each of their keys have one.
 pub fn locality()

@@ -1,8 +1,7 @@
 //! Prints timelines.
 ghost use Rattle.std.specs.Prelude.{◌≡◌, ◌<◌, ◌^◌, ◌++◌, OnOk, OnErr};
 ghost use Rattle.std.specs.List.{All};
-ghost use Rattle.mc_history.specs.PrintedHistory.{line_text};
-ghost use Rattle.mc_history.specs.PrintedParts.{MayBeNoted, NoteSpellsItself};
+ghost use Rattle.mc_history.specs.{PrintedHistory.line_text, PrintedParts.MayBeNoted, PrintedParts.NoteSpellsItself};
 ghost use Rattle.mc_timeline.specs.TimelineText as text;
 ghost use Rattle.mc_timeline.specs.PrintedNotes as part;
 

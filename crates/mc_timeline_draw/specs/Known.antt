@@ -1,9 +1,7 @@
 -- What is known of a timeline.
 use Rattle.std.specs.Prelude.{List}
 use Rattle.mc_timeline.specs.Timelines.{ClientNote}
-use Rattle.mc_linearize.specs.Claims.{ExplainsTimeline}
-use Rattle.mc_linearize.specs.Keys.{keys_in}
-use Rattle.mc_linearize.specs.Verdicts.{IsFirstUndecidedOf, IsUnexplainedAt}
+use Rattle.mc_linearize.specs.{Claims.ExplainsTimeline, Keys.keys_in, Verdicts.IsFirstUndecidedOf, Verdicts.IsUnexplainedAt}
 use Rattle.mc_timeline_why.specs.TimelineCauses.{IsFoundOn}
 use Rattle.mc_timeline_draw.specs.declared.known.TimelineKnown.{TimelineKnown}
 use Rattle.mc_timeline_draw.specs.declared.known.TimelineKnown.TheVariants as known

@@ -6,24 +6,18 @@ use Rattle.std.proofs.lemmas.Bool.{and_parts, and_from}
 use Rattle.mc_protocol.specs.declared.actor.Actor.{Actor}
 use Rattle.mc_protocol.specs.declared.actor.Actor.TheVariants as actor
 use Rattle.mc_protocol.proofs.FirstItems.{head_is, rest_is}
-use Rattle.mc_model.specs.declared.sent.Sent.{Sent}
-use Rattle.mc_model.specs.Notes.{Noted, answered_before, is_record}
-use Rattle.mc_model.specs.Sections.{Sections}
+use Rattle.mc_model.specs.{declared.sent.Sent.Sent, Notes.Noted, Notes.answered_before, Notes.is_record, Sections.Sections}
 use Rattle.mc_model.proofs.NoteFaults.{record_parts}
 use Rattle.mc_history.specs.Turns.{Turn}
 use Rattle.mc_claims.specs.Walk.{Left, first_of, left_after, may_end, next_at}
 use Rattle.mc_claims.proofs.Recorded.{IsAllowedFrom, allowed_end, allowed_more, begins_allowed, end_allowed, next_parts}
 use Rattle.mc_claims.proofs.Orders.{met}
-use Rattle.mc_timeline.specs.Members.{IsIn}
-use Rattle.mc_timeline.specs.Operations.{Operation}
 use Rattle.mc_timeline.specs.Queues.{Queues, NoNextCameBefore, WalksByNext}
-use Rattle.mc_timeline.specs.Rules.{sent_of}
-use Rattle.mc_timeline.specs.Walks.{CameNoEarlier}
+use Rattle.mc_timeline.specs.{Members.IsIn, Operations.Operation, Rules.sent_of, Walks.CameNoEarlier}
 use Rattle.mc_timeline.proofs.Members.{among_back}
 use Rattle.mc_timeline_of.proofs.ClientQueues.{section_by, section_is, queue, of_section, after_itself}
-use Rattle.mc_timeline_of.proofs.Leading.{IsOfBranch, prefix_leads, comes_first}
-use Rattle.mc_timeline_of.proofs.Tests.{answered_in}
 use Rattle.mc_timeline_of.proofs.NextActs.{NextLast, more_last, first_last, no_answer, more_end, first_end, later_too, over_and_later, lets, p_answered}
+use Rattle.mc_timeline_of.proofs.{Leading.IsOfBranch, Leading.prefix_leads, Leading.comes_first, Tests.answered_in}
 
 -- ---- operations and turns
 

@@ -6,10 +6,8 @@ use Rattle.mc_protocol.specs.declared.{actor.Actor.Actor, request.Request.Reques
 use Rattle.mc_protocol.specs.declared.actor.Actor.TheVariants as actor
 use Rattle.mc_model.specs.declared.note.Note.TheVariants as note
 use Rattle.mc_model.specs.Notes.{Noted, is_same_section}
-use Rattle.mc_timeline.specs.Members.{IsIn}
-use Rattle.mc_timeline.specs.Operations.{Answer, Operation}
 use Rattle.mc_timeline.specs.Timelines.{Waiting, with_waiting, are_in_order, placed, answer_to, operations_in}
-use Rattle.mc_timeline.specs.Walks.{CameNoEarlier}
+use Rattle.mc_timeline.specs.{Members.IsIn, Operations.Answer, Operations.Operation, Walks.CameNoEarlier}
 use Rattle.mc_timeline_of.specs.SameNotes.{client_of, of_clients}
 
 -- ---- sections and their clients

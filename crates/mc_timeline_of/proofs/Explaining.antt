@@ -1,29 +1,22 @@
 -- What explains a history explains the timeline of the same notes, and the other way round.
 use Rattle.std.proofs.Common.{◌≡◌, ◌<◌, ◌^◌, inl, inr, ℕ, zero, suc, true, Some}
 use Rattle.std.proofs.Common.{List, [], ◌∷◌, ◌++◌, map, refl, ap, ap₂, subst, sym, ◌∙◌, arith}
-use Rattle.std.specs.List.{All}
 use Rattle.std.proofs.lemmas.List.Elements.{All-nil, All-cons, All-head, All-tail}
+use Rattle.std.specs.List.{All}
 use Rattle.mc_protocol.specs.declared.{actor.Actor.Actor, reply.Reply.Reply}
 use Rattle.mc_protocol.proofs.FirstItems.{head_is, rest_is}
 use Rattle.mc_model.specs.Notes.{History, IsHistory, Keeps, Noted, is_record, with_notes}
-use Rattle.mc_history.specs.declared.explanation.Move.{Move}
-use Rattle.mc_history.specs.Claim.{Claim}
-use Rattle.mc_history.specs.Distinct.{AreDistinct}
-use Rattle.mc_history.specs.Turns.{Turn}
+use Rattle.mc_history.specs.{declared.explanation.Move.Move, Claim.Claim, Distinct.AreDistinct, Turns.Turn}
 use Rattle.mc_claims.specs.Explains as history
 use Rattle.mc_claims.specs.Replay.{Step, replay, versions}
-use Rattle.mc_timeline.specs.Members.{IsIn}
-use Rattle.mc_timeline.specs.Operations.{Operation, IsLinearization}
-use Rattle.mc_timeline.specs.Explanations as timeline
 use Rattle.mc_timeline.specs.Explanations.{Effected, step_of, order_of}
-use Rattle.mc_timeline.specs.Timelines.{ClientNote, operations_of}
-use Rattle.mc_linearize.specs.declared.explanation.TimelineMove.{TimelineMove}
-use Rattle.mc_linearize.specs.Claims.{ExplainsTimeline, move_of}
+use Rattle.mc_timeline.specs.{Members.IsIn, Operations.Operation, Operations.IsLinearization, Timelines.ClientNote, Timelines.operations_of}
+use Rattle.mc_timeline.specs.Explanations as timeline
+use Rattle.mc_linearize.specs.{declared.explanation.TimelineMove.TimelineMove, Claims.ExplainsTimeline, Claims.move_of}
 use Rattle.mc_timeline_of.specs.SameNotes.{client_of, of_clients}
 use Rattle.mc_timeline_of.specs.SameExplanations.{AreExplainedAlike, by_client, by_clients, ExplanationsAreTheSame, ExplainedAlike}
 use Rattle.mc_timeline_of.proofs.ClientQueues.{section_by, section_is, low_clients}
-use Rattle.mc_timeline_of.proofs.Acting.{turn_of}
-use Rattle.mc_timeline_of.proofs.Orders.{linearized, is_allowed}
+use Rattle.mc_timeline_of.proofs.{Acting.turn_of, Orders.linearized, Orders.is_allowed}
 
 -- ---- numbers
 

@@ -1,37 +1,25 @@
 -- The notes of a history are a timeline.
 use Rattle.std.proofs.Common.{◌≡◌, ◌≤◌, inl, ℕ, Bool, true, false, cond, not, ◌&&◌, ◌||◌, eqb, eq-eqb, Some, None}
 use Rattle.std.proofs.Common.{List, [], ◌∷◌, ◌++◌, append_assoc, map, filter, length, refl, ap, subst, sym, ◌∙◌, arith, nat_le, if◌then◌else◌}
-use Rattle.std.specs.Str.{bytes_eq}
 use Rattle.std.proofs.lemmas.Bool.{and_parts, lt-leb, leb-true}
-use Rattle.std.proofs.lemmas.List.{length-map, map-append}
-use Rattle.std.proofs.lemmas.List.Elements.{filter-append}
-use Rattle.std.proofs.lemmas.Slice.Eq.{bytes_eq-Decides}
-use Rattle.mc_protocol.specs.declared.{actor.Actor.Actor, request.Request.Request, reply.Reply.Reply}
+use Rattle.std.proofs.{lemmas.List.length-map, lemmas.List.map-append, lemmas.List.Elements.filter-append, lemmas.Slice.Eq.bytes_eq-Decides}
+use Rattle.std.specs.Str.{bytes_eq}
+use Rattle.mc_protocol.specs.{declared.actor.Actor.Actor, declared.request.Request.Request, declared.reply.Reply.Reply, Legal.is_fit}
 use Rattle.mc_protocol.specs.declared.actor.Actor.TheVariants as actor
-use Rattle.mc_protocol.specs.Legal.{is_fit}
 use Rattle.mc_model.specs.declared.note.Note.TheVariants as note
 use Rattle.mc_model.specs.declared.rules.HistoryKind.TheVariants as kind
-use Rattle.mc_model.specs.declared.sent.Sent.{Sent}
-use Rattle.mc_model.specs.Types.{REQUESTS_LIMIT}
+use Rattle.mc_model.specs.Notes.{Noted, is_record, is_out_of_order, is_same_section, are_in_order, requests_in, replies_in, sections_in}
+use Rattle.mc_model.specs.{declared.sent.Sent.Sent, Types.REQUESTS_LIMIT, Sections.Sections, Sections.section_of}
 use Rattle.mc_model.specs.History as model
 use Rattle.mc_model.specs.Next as next
-use Rattle.mc_model.specs.Notes.{Noted, is_record, is_out_of_order, is_same_section, are_in_order, requests_in, replies_in, sections_in}
-use Rattle.mc_model.specs.Sections.{Sections, section_of}
-use Rattle.mc_model.proofs.Answering.{last_of-push}
-use Rattle.mc_model.proofs.Faults.{rules_of, first_failed, fault_by_tests}
-use Rattle.mc_model.proofs.Limits.{short_parts}
 use Rattle.mc_model.proofs.NoteFaults.{record_parts, balanced, order-push, fault_by_sections, no_fault_within, record_shorter}
 use Rattle.mc_model.proofs.Noting.{section_in, waiting_last, waits_for_one}
+use Rattle.mc_model.proofs.{Answering.last_of-push, Faults.rules_of, Faults.first_failed, Faults.fault_by_tests, Limits.short_parts}
 use Rattle.mc_timeline.specs.declared.limits.TheConstants.{CLIENTS_LIMIT, OPERATIONS_LIMIT, TIMELINE_KEYS_LIMIT}
-use Rattle.mc_timeline.specs.Members.{IsIn}
-use Rattle.mc_timeline.specs.Operations.{Answer, Operation, on_key}
+use Rattle.mc_timeline.specs.{Members.IsIn, Operations.Answer, Operations.Operation, Operations.on_key, Timelines.ClientNote, Timelines.operations_of}
 use Rattle.mc_timeline.specs.Rules as rule
-use Rattle.mc_timeline.specs.Timelines.{ClientNote, operations_of}
-use Rattle.mc_timeline.proofs.Answered.{on_key_answered, same_client}
-use Rattle.mc_timeline.proofs.Following.{keep_more}
-use Rattle.mc_timeline.proofs.Members.{among_kept, kept_among}
-use Rattle.mc_timeline.proofs.MoreNotes.{unanswered, answered, begun, replied}
-use Rattle.mc_timeline.proofs.TimelineOrder.{are_ordered}
+use Rattle.mc_timeline.proofs.{Answered.on_key_answered, Answered.same_client, Following.keep_more, Members.among_kept, Members.kept_among}
+use Rattle.mc_timeline.proofs.{MoreNotes.unanswered, MoreNotes.answered, MoreNotes.begun, MoreNotes.replied, TimelineOrder.are_ordered}
 use Rattle.mc_timeline_of.specs.SameNotes.{client_of, of_clients, HistoriesAreTimelines}
 use Rattle.mc_timeline_of.proofs.ClientQueues.{queue, queue_is, queues_hold_all, in_turn, takes_turns, same_actor}
 use Rattle.mc_timeline_of.proofs.SectionQueues.{sent_is}

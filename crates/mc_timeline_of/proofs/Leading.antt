@@ -8,8 +8,7 @@ use Rattle.mc_model.specs.declared.note.Note.TheVariants as note
 use Rattle.mc_model.specs.History.{is_none_sent, comes_late}
 use Rattle.mc_model.specs.Notes.{Noted, are_in_order, is_out_of_order, is_waiting, begun_by, requests_in, with_replies, sections_in}
 use Rattle.mc_model.proofs.Noting.{requests-push}
-use Rattle.mc_timeline.specs.Members.{IsIn}
-use Rattle.mc_timeline.specs.Operations.{Answer, Operation}
+use Rattle.mc_timeline.specs.{Members.IsIn, Operations.Answer, Operations.Operation}
 use Rattle.mc_timeline_of.proofs.ClientQueues.{operation_at, first_reply, queue, began_later}
 
 -- once a branch has begun, P notes nothing

@@ -7,25 +7,16 @@ use Rattle.mc_protocol.specs.declared.actor.Actor.TheVariants as actor
 use Rattle.mc_model.specs.declared.note.Note.TheVariants as note
 use Rattle.mc_model.specs.History as model
 use Rattle.mc_model.specs.Notes.{Noted, answered_before, is_record, is_same_section, sections_in}
-use Rattle.mc_model.proofs.Faults.{rules_of}
-use Rattle.mc_model.proofs.NoteFaults.{record_parts}
-use Rattle.mc_claims.specs.ExplainsLaws.{are_both_branches}
-use Rattle.mc_claims.specs.Walk.{may_end}
+use Rattle.mc_model.proofs.{Faults.rules_of, NoteFaults.record_parts}
+use Rattle.mc_claims.specs.{ExplainsLaws.are_both_branches, Walk.may_end}
 use Rattle.mc_claims.proofs.AnsweredFirst.{answered_within}
-use Rattle.mc_timeline.specs.Members.{IsIn}
 use Rattle.mc_timeline.specs.Operations.{Answer, Operation, CameBefore}
-use Rattle.mc_timeline.specs.Explanations.{received}
-use Rattle.mc_timeline.specs.Queues.{Queues, MayEnd, NoNextCameBefore}
-use Rattle.mc_timeline.specs.Rules.{sent_of}
-use Rattle.mc_timeline.specs.Walks.{CameNoEarlier}
-use Rattle.mc_timeline.proofs.Times.{came_when}
-use Rattle.mc_timeline.proofs.TimelineOrder.{are_ordered}
+use Rattle.mc_timeline.specs.{Members.IsIn, Explanations.received, Queues.Queues, Queues.MayEnd, Queues.NoNextCameBefore, Rules.sent_of, Walks.CameNoEarlier}
+use Rattle.mc_timeline.proofs.{Times.came_when, TimelineOrder.are_ordered}
 use Rattle.mc_timeline_of.specs.SameNotes.{of_clients}
 use Rattle.mc_timeline_of.proofs.ClientQueues.{queue, in_turn, takes_turns}
-use Rattle.mc_timeline_of.proofs.SectionQueues.{sent_is}
 use Rattle.mc_timeline_of.proofs.Counting.{replied_before, answered_when, few_replies, began_after, replied_until}
-use Rattle.mc_timeline_of.proofs.Leading.{IsOver, IsOfBranch}
-use Rattle.mc_timeline_of.proofs.Keeping.{are_timelines}
+use Rattle.mc_timeline_of.proofs.{SectionQueues.sent_is, Leading.IsOver, Leading.IsOfBranch, Keeping.are_timelines}
 
 -- ---- the next of each client
 

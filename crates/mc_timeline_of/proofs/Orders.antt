@@ -3,20 +3,13 @@ use Rattle.std.proofs.Common.{◌≡◌, ◌↔◌, true, Some, List, [], ◌∷
 use Rattle.mc_protocol.specs.declared.actor.Actor.TheVariants as actor
 use Rattle.mc_model.specs.Notes.{Noted, is_record, with_notes}
 use Rattle.mc_history.specs.Turns.{Turn}
-use Rattle.mc_claims.specs.Orders.{IsAllowed}
-use Rattle.mc_claims.specs.Walk.{all_left}
+use Rattle.mc_claims.specs.{Orders.IsAllowed, Walk.all_left}
 use Rattle.mc_claims.proofs.Recorded.{IsAllowedFrom, allowed_from_start, start_allowed}
-use Rattle.mc_timeline.specs.Operations.{Operation, IsLinearization}
-use Rattle.mc_timeline.specs.Queues.{WalksByNext, queues_of}
-use Rattle.mc_timeline.specs.Timelines.{operations_of}
-use Rattle.mc_timeline.proofs.Queues.{are_walked}
-use Rattle.mc_timeline.proofs.TimelineOrder.{are_ordered}
+use Rattle.mc_timeline.specs.{Operations.Operation, Operations.IsLinearization, Queues.WalksByNext, Queues.queues_of, Timelines.operations_of}
+use Rattle.mc_timeline.proofs.{Queues.are_walked, TimelineOrder.are_ordered}
 use Rattle.mc_timeline_of.specs.SameNotes.{of_clients}
-use Rattle.mc_timeline_of.proofs.ClientQueues.{low_clients, queue, queue_is}
-use Rattle.mc_timeline_of.proofs.SectionQueues.{sent_is}
-use Rattle.mc_timeline_of.proofs.Keeping.{are_timelines}
-use Rattle.mc_timeline_of.proofs.NextActs.{in_its_turn}
-use Rattle.mc_timeline_of.proofs.Acting.{turn_of, left_at, queues_at, Stands, to_walk, from_walk}
+use Rattle.mc_timeline_of.proofs.{ClientQueues.low_clients, ClientQueues.queue, ClientQueues.queue_is, SectionQueues.sent_is, Keeping.are_timelines}
+use Rattle.mc_timeline_of.proofs.{NextActs.in_its_turn, Acting.turn_of, Acting.left_at, Acting.queues_at, Acting.Stands, Acting.to_walk, Acting.from_walk}
 
 module _ (notes : List Noted) (is_history : is_record notes ≡ true) where
   abbrev told : List Operation

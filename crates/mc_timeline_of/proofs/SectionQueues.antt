@@ -4,11 +4,9 @@ use Rattle.std.proofs.Common.{List, [], ◌∷◌, ◌++◌, map, refl, ap, sym,
 use Rattle.std.proofs.lemmas.Bool.{and_parts}
 use Rattle.mc_protocol.specs.declared.{actor.Actor.Actor, request.Request.Request, reply.Reply.Reply}
 use Rattle.mc_model.specs.declared.note.Note.TheVariants as note
-use Rattle.mc_model.specs.Notes.{Noted, is_same_section, requests_in, replies_in, with_replies, sections_in}
-use Rattle.mc_model.specs.Sections.{section_of}
+use Rattle.mc_model.specs.{Notes.Noted, Notes.is_same_section, Notes.requests_in, Notes.replies_in, Notes.with_replies, Notes.sections_in, Sections.section_of}
 use Rattle.mc_model.proofs.Noting.{section_in}
-use Rattle.mc_timeline.specs.Explanations.{received}
-use Rattle.mc_timeline.specs.Rules.{sent_of}
+use Rattle.mc_timeline.specs.{Explanations.received, Rules.sent_of}
 use Rattle.mc_timeline_of.proofs.ClientQueues.{operation_at, first_reply, queue, takes_turns}
 
 -- ---- the first of the replies

@@ -1,16 +1,12 @@
 -- What the sections of a history say of the operations of the same notes.
 use Rattle.std.proofs.Common.{◌≡◌, ◌≤◌, ◌+◌, inl, inr, ℕ, Bool, true, false, cond, not, ◌&&◌, ◌||◌, eqb, Option, Some, None, is_some}
 use Rattle.std.proofs.Common.{List, [], ◌∷◌, ◌++◌, map, filter, length, refl, ap, sym, ◌∙◌, arith, length-append, if◌then◌else◌}
-use Rattle.std.specs.List.{list_any}
-use Rattle.std.specs.Str.{bytes_eq}
 use Rattle.std.proofs.lemmas.Bool.{and_parts}
-use Rattle.mc_protocol.specs.declared.{request.Request.Request, reply.Reply.Reply}
-use Rattle.mc_protocol.specs.Legal.{is_fit}
+use Rattle.std.specs.{List.list_any, Str.bytes_eq}
+use Rattle.mc_protocol.specs.{declared.request.Request.Request, declared.reply.Reply.Reply, Legal.is_fit}
 use Rattle.mc_model.specs.declared.sent.Sent.{Sent}
 use Rattle.mc_model.specs.History as model
-use Rattle.mc_timeline.specs.Members.{IsIn}
-use Rattle.mc_timeline.specs.Operations.{Answer, Operation, on_key}
-use Rattle.mc_timeline.specs.Explanations.{received}
+use Rattle.mc_timeline.specs.{Members.IsIn, Operations.Answer, Operations.Operation, Operations.on_key, Explanations.received}
 use Rattle.mc_timeline.specs.Rules as rule
 
 received_some : (answer : Option Answer) → is_some (received answer) ≡ is_some answer

@@ -1,13 +1,10 @@
 -- What explains a history explains the timeline that has the same notes, and the other way round.
 use Rattle.std.specs.Prelude.{◌≡◌, ◌↔◌, true, Option, Some, None, List, map}
 use Rattle.mc_model.specs.Notes.{History, Noted, is_record, with_notes}
-use Rattle.mc_history.specs.declared.explanation.Move.{Move}
-use Rattle.mc_history.specs.Claim.{Claim}
+use Rattle.mc_history.specs.{declared.explanation.Move.Move, Claim.Claim}
 use Rattle.mc_claims.specs.Explains.{Explains}
-use Rattle.mc_timeline.specs.Timelines.{ClientNote, operations_of}
-use Rattle.mc_timeline.specs.Explanations.{IsExplained}
-use Rattle.mc_linearize.specs.declared.explanation.TimelineMove.{TimelineMove}
-use Rattle.mc_linearize.specs.Claims.{TimelineClaim, ExplainsTimeline}
+use Rattle.mc_timeline.specs.{Timelines.ClientNote, Timelines.operations_of, Explanations.IsExplained}
+use Rattle.mc_linearize.specs.{declared.explanation.TimelineMove.TimelineMove, Claims.TimelineClaim, Claims.ExplainsTimeline}
 use Rattle.mc_timeline_of.specs.SameNotes.{client_of, of_clients}
 
 -- the move of a section is that of the client that it is

@@ -3,8 +3,7 @@ use Rattle.std.specs.Prelude.{◌≡◌, ℕ, true, List, map}
 use Rattle.mc_protocol.specs.declared.actor.Actor.{Actor}
 use Rattle.mc_protocol.specs.declared.actor.Actor.TheVariants as actor
 use Rattle.mc_model.specs.Notes.{Noted, is_record}
-use Rattle.mc_timeline.specs.Timelines.{ClientNote}
-use Rattle.mc_timeline.specs.Rules.{IsTimeline}
+use Rattle.mc_timeline.specs.{Timelines.ClientNote, Rules.IsTimeline}
 
 -- P, A and B are the clients 0, 1 and 2
 abbrev pub client_of : Actor → ℕ

@@ -1,8 +1,7 @@
 //! Histories that keep their notes, and the timelines of the same notes. Each function here does nothing: its contract is a law,
 //! which callers cite.
-ghost use Rattle.mc_timeline_of.specs.SameNotes.{HistoriesAreTimelines};
 ghost use Rattle.mc_timeline_of.specs.SameExplanations.{ExplainedAlike, ExplanationsAreTheSame};
-ghost use Rattle.mc_timeline_of.specs.SameVerdicts.{VerdictsAgree};
+ghost use Rattle.mc_timeline_of.specs.{SameNotes.HistoriesAreTimelines, SameVerdicts.VerdictsAgree};
 
 /// The notes of a history are a timeline: P, A and B are the clients 0, 1 and 2.
 pub fn histories_are_timelines()

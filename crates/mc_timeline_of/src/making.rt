@@ -3,8 +3,7 @@ ghost use Rattle.std.specs.Prelude.{◌≡◌, ◌∷◌, [], ◌++◌, true, No
 ghost use Rattle.std.specs.Option.{option_map};
 ghost use Rattle.mc_model.specs.Notes.{is_record};
 ghost use Rattle.mc_timeline.specs.Rules as rule;
-ghost use Rattle.mc_timeline_of.specs.SameNotes.{client_of, of_clients};
-ghost use Rattle.mc_timeline_of.specs.SameExplanations.{AreExplainedAlike};
+ghost use Rattle.mc_timeline_of.specs.{SameNotes.client_of, SameNotes.of_clients, SameExplanations.AreExplainedAlike};
 
 use mc_model::{History, HistoryKind, Note};
 use mc_protocol::{Actor, OutOfMemory};

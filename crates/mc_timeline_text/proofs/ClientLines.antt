@@ -1,29 +1,19 @@
 -- Lines that begin with the number of a client: which are distinguished by their first words, and that each spells one value.
 use Rattle.std.proofs.Common.{◌≡◌, ◌<◌, ◌≤◌, ◌⊎◌, inl, inr, ℕ, suc, Bool, true, false, not, ◌&&◌, eqb, eqb-true, is_some, decimal, codes}
 use Rattle.std.proofs.Common.{None, List, [], ◌∷◌, ◌++◌, drop, refl, sym, ap, ap₂, subst, ◌∙◌, arith}
-use Rattle.std.proofs.lemmas.Bool.{cases_lt}
-use Rattle.std.proofs.lemmas.Fmt.{decimal_injective}
-use Rattle.mc_protocol.specs.Lines.{Word, Words}
-use Rattle.mc_protocol.specs.Decimals.{SpellsNumber, MAX_64, are_digits}
-use Rattle.mc_protocol.specs.Spelling.{SpellEach}
-use Rattle.mc_protocol.proofs.Decimals.{decimal-spells}
-use Rattle.mc_protocol.proofs.FirstItems.{head_is, rest_is}
-use Rattle.mc_model.specs.declared.act.Choice.{Choice}
-use Rattle.mc_model.specs.declared.note.Note.{Note}
+use Rattle.std.proofs.{lemmas.Bool.cases_lt, lemmas.Fmt.decimal_injective}
+use Rattle.mc_protocol.specs.{Lines.Word, Lines.Words, Decimals.SpellsNumber, Decimals.MAX_64, Decimals.are_digits, Spelling.SpellEach}
+use Rattle.mc_protocol.proofs.{Decimals.decimal-spells, FirstItems.head_is, FirstItems.rest_is}
+use Rattle.mc_model.specs.{declared.act.Choice.Choice, declared.note.Note.Note}
 use Rattle.mc_model.specs.declared.note.Note.TheVariants as note
 use Rattle.mc_history.specs.HistoryText.{SpellsNoted, marks_of}
 use Rattle.mc_history.proofs.LineLemmas.{one_noted, one_number, one_choice, same_pair}
-use Rattle.mc_timeline.specs.declared.limits.TheConstants.{CLIENTS_LIMIT}
-use Rattle.mc_timeline.specs.Members.{IsIn}
-use Rattle.mc_timeline.specs.Operations.{Operation}
 use Rattle.mc_timeline.specs.Timelines.{ClientNote, operations_of, operations_in, placed}
+use Rattle.mc_timeline.specs.{declared.limits.TheConstants.CLIENTS_LIMIT, Members.IsIn, Operations.Operation, TimelineText.SpellsClientNote}
 use Rattle.mc_timeline.specs.Rules as rule
-use Rattle.mc_timeline.specs.TimelineText.{SpellsClientNote}
-use Rattle.mc_timeline.proofs.Begun.{room_and_free, is_small}
-use Rattle.mc_timeline.proofs.Following.{keep_more}
+use Rattle.mc_timeline.proofs.{Begun.room_and_free, Begun.is_small, Following.keep_more}
 use Rattle.mc_linearize.specs.declared.explanation.TimelineMove.{TimelineMove}
-use Rattle.mc_timeline_text.specs.TimelineTexts.{SpellsClientMove}
-use Rattle.mc_timeline_text.specs.TimelineParts.{SpellsSmall}
+use Rattle.mc_timeline_text.specs.{TimelineTexts.SpellsClientMove, TimelineParts.SpellsSmall}
 
 -- ---- first words
 

@@ -1,8 +1,7 @@
 -- The printed lines of an explanation, list by list.
 use Rattle.std.proofs.Common.{◌≡◌, ℕ, List, ◌++◌, map, append_assoc}
+use Rattle.std.proofs.{lemmas.Grind.flat_map-append, lemmas.List.Folds.flat_map-map}
 use Rattle.std.specs.List.{flat_map}
-use Rattle.std.proofs.lemmas.Grind.{flat_map-append}
-use Rattle.std.proofs.lemmas.List.Folds.{flat_map-map}
 use Rattle.mc_history.specs.PrintedHistory.{line_text, start_words}
 use Rattle.mc_linearize.specs.declared.explanation.TimelineMove.{TimelineMove}
 use Rattle.mc_timeline_text.specs.TimelineTexts.{client_move_words, claim_text}

@@ -1,19 +1,13 @@
 -- The lines after the notes of a timeline: what they spell is what is read of them, line by line.
 use Rattle.std.proofs.Common.{◌≡◌, ◌<◌, ◌⊎◌, ℕ, Option, Some, None, inl, inr, List, [], ◌∷◌, ◌++◌, codes, decimal, map}
 use Rattle.std.proofs.Common.{refl, sym, ap, ap₂, subst, ◌∙◌, append_assoc}
-use Rattle.mc_protocol.specs.Lines.{Words}
-use Rattle.mc_protocol.specs.Spelling.{SpellEach}
+use Rattle.mc_protocol.specs.{Lines.Words, Spelling.SpellEach}
 use Rattle.mc_protocol.proofs.FirstItems.{head_is, rest_is}
-use Rattle.mc_history.specs.Distinct.{AreDistinct}
-use Rattle.mc_history.specs.HistoryText.{SpellsStart, end_line, explain_line}
-use Rattle.mc_history.specs.Parts.{starts}
-use Rattle.mc_history.proofs.ClaimLines.{along_starts}
-use Rattle.mc_history.proofs.LineLemmas.{one_start, start_is_not_end, end_is_not_explain}
+use Rattle.mc_history.specs.{Distinct.AreDistinct, HistoryText.SpellsStart, HistoryText.end_line, HistoryText.explain_line, Parts.starts}
 use Rattle.mc_history.proofs.Reading.{IsReadable, after_listed, along_freely, series_of, parts_of, one_series}
-use Rattle.mc_timeline.specs.declared.limits.TheConstants.{CLIENTS_LIMIT}
-use Rattle.mc_timeline.specs.Timelines.{ClientNote}
-use Rattle.mc_linearize.specs.declared.explanation.TimelineMove.{TimelineMove}
-use Rattle.mc_linearize.specs.Claims.{TimelineClaim}
+use Rattle.mc_history.proofs.{ClaimLines.along_starts, LineLemmas.one_start, LineLemmas.start_is_not_end, LineLemmas.end_is_not_explain}
+use Rattle.mc_timeline.specs.{declared.limits.TheConstants.CLIENTS_LIMIT, Timelines.ClientNote}
+use Rattle.mc_linearize.specs.{declared.explanation.TimelineMove.TimelineMove, Claims.TimelineClaim}
 use Rattle.mc_timeline_text.specs.TimelineTexts.{SpellsClientMove, SpellsTimelineTail}
 use Rattle.mc_timeline_text.specs.TimelineParts.{moves, AfterMoves, AfterStarts, SpellsMoves, SpellsSmall, SpellsStarts}
 use Rattle.mc_timeline_text.proofs.ClientLines.{client_is_not, one_client_move}

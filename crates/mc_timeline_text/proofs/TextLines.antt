@@ -1,13 +1,10 @@
 -- The lines of a timeline's text: what the text spells is what is read of it, line by line.
 use Rattle.std.proofs.Common.{◌≡◌, ◌↔◌, ℕ, List, [], ◌∷◌, ◌++◌, refl, sym, ap, subst, ◌∙◌}
-use Rattle.mc_protocol.specs.declared.lines.Separator.TheVariants.{Space}
-use Rattle.mc_protocol.specs.Lines.{words_of_text, Words}
-use Rattle.mc_protocol.specs.Spelling.{SpellEach}
+use Rattle.mc_protocol.specs.{declared.lines.Separator.TheVariants.Space, Lines.words_of_text, Lines.Words, Spelling.SpellEach}
 use Rattle.mc_protocol.proofs.FirstItems.{rest_is}
 use Rattle.mc_history.proofs.Reading.{IsReadable, Along, after_listed, series_of, parts_of, one_series}
-use Rattle.mc_timeline.specs.Timelines.{ClientNote}
+use Rattle.mc_timeline.specs.{Timelines.ClientNote, TimelineText.SpellsClientNote, TimelineText.timeline_header}
 use Rattle.mc_timeline.specs.Rules as rule
-use Rattle.mc_timeline.specs.TimelineText.{SpellsClientNote, timeline_header}
 use Rattle.mc_timeline_text.specs.TimelineTexts.{Spelled, SpellsTimelineTail, SpellsTimelineText, SpellsOneTimeline}
 use Rattle.mc_timeline_text.specs.TimelineParts.{notes, AfterNotes, SpellsNotes}
 use Rattle.mc_timeline_text.proofs.ClientLines.{one_note, small_each, plain_each}

@@ -4,11 +4,9 @@ use Rattle.std.specs.Prelude.{◌≡◌, ◌<◌, ℕ, None, List, [], ◌∷◌
 use Rattle.mc_protocol.specs.Lines.{Words}
 use Rattle.mc_history.specs.{Distinct.AreDistinct, HistoryText.end_line, Parts.starts}
 use Rattle.mc_history.specs.Series.{Form, Series, listed}
-use Rattle.mc_timeline.specs.declared.limits.TheConstants.{CLIENTS_LIMIT}
+use Rattle.mc_timeline.specs.{declared.limits.TheConstants.CLIENTS_LIMIT, TimelineText.SpellsClientNote}
 use Rattle.mc_timeline.specs.{Timelines.ClientNote, Rules.IsTimeline, Rules.fault_of}
-use Rattle.mc_timeline.specs.TimelineText.{SpellsClientNote}
-use Rattle.mc_linearize.specs.declared.explanation.TimelineMove.{TimelineMove}
-use Rattle.mc_linearize.specs.Claims.{TimelineClaim}
+use Rattle.mc_linearize.specs.{declared.explanation.TimelineMove.TimelineMove, Claims.TimelineClaim}
 use Rattle.mc_timeline_text.specs.TimelineTexts.{Spelled, SpellsClientMove, SpellsTimelineTail}
 
 -- ---- notes: none has a fault after those before it

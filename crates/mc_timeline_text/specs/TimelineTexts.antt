@@ -1,16 +1,13 @@
 -- The text of a timeline, with or without an explanation.
 use Rattle.std.specs.Prelude.{◌≡◌, ◌<◌, ℕ, Option, Some, None, List, [], ◌∷◌, ◌++◌, map, decimal}
-use Rattle.mc_protocol.specs.declared.lines.Separator.TheVariants.{Space}
+use Rattle.mc_protocol.specs.{declared.lines.Separator.TheVariants.Space, Decimals.SpellsNumber, Decimals.MAX_64}
 use Rattle.mc_protocol.specs.{Spelling.SpellEach, Lines.words_of_text, Lines.Word, Lines.Words}
-use Rattle.mc_protocol.specs.Decimals.{SpellsNumber, MAX_64}
 use Rattle.mc_history.specs.{Distinct.AreDistinct}
 use Rattle.mc_history.specs.HistoryText.{SpellsStart, marks_of, explain_line, end_line}
 use Rattle.mc_history.specs.PrintedHistory.{lines_text, start_words}
-use Rattle.mc_timeline.specs.declared.limits.TheConstants.{CLIENTS_LIMIT}
+use Rattle.mc_timeline.specs.{declared.limits.TheConstants.CLIENTS_LIMIT, TimelineText.SpellsClientNote, TimelineText.timeline_header}
 use Rattle.mc_timeline.specs.{Timelines.ClientNote, Rules.IsTimeline}
-use Rattle.mc_timeline.specs.TimelineText.{SpellsClientNote, timeline_header}
-use Rattle.mc_linearize.specs.declared.explanation.TimelineMove.{TimelineMove}
-use Rattle.mc_linearize.specs.Claims.{TimelineClaim}
+use Rattle.mc_linearize.specs.{declared.explanation.TimelineMove.TimelineMove, Claims.TimelineClaim}
 
 -- notes, and what is claimed to explain them, if anything is
 abbrev pub Spelled : Type 0

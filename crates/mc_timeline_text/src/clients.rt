@@ -1,7 +1,6 @@
 //! Reads the numbers of clients.
 ghost use Rattle.std.specs.Prelude.{◌≡◌, ◌≢◌, ◌<◌, ◌≤◌, ℕ, ◌∷◌, decimal, length, IfOk, IfErr};
-ghost use Rattle.mc_protocol.specs.Decimals.{SpellsNumber, MAX_64};
-ghost use Rattle.mc_protocol.specs.Lines.{Words};
+ghost use Rattle.mc_protocol.specs.{Decimals.SpellsNumber, Decimals.MAX_64, Lines.Words};
 ghost use Rattle.mc_timeline.specs.declared.limits.TheConstants.{CLIENTS_LIMIT};
 
 use itoa::Buffer;

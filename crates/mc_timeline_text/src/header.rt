@@ -1,7 +1,6 @@
 //! The first line of a timeline's text.
 ghost use Rattle.std.specs.Prelude.{◌≡◌, ◌≢◌, ◌↔◌, ◌∷◌, List, IsTrue, IfOk, IfErr, OnOk};
-ghost use Rattle.mc_protocol.specs.declared.lines.Separator.TheVariants.{Space};
-ghost use Rattle.mc_protocol.specs.Lines.{Words, words_of_text};
+ghost use Rattle.mc_protocol.specs.{declared.lines.Separator.TheVariants.Space, Lines.Words, Lines.words_of_text};
 ghost use Rattle.mc_timeline.specs.TimelineText.{timeline_header};
 
 use mc_history::{Expected, ExpectedInTimeline, HistoryFault};

@@ -1,8 +1,7 @@
 //! Reads the moves of an explanation.
 ghost use Rattle.std.specs.Prelude.{◌∷◌, IfOk, IfErr};
 ghost use Rattle.mc_history.specs.Refuses.{Refuses};
-ghost use Rattle.mc_timeline_text.specs.TimelineTexts.{SpellsClientMove};
-ghost use Rattle.mc_timeline_text.specs.TimelineParts.{SpellsMoves};
+ghost use Rattle.mc_timeline_text.specs.{TimelineTexts.SpellsClientMove, TimelineParts.SpellsMoves};
 
 use crate::clients::read_client;
 use mc_history::{ExpectedInTimeline, HistoryFault, finish, next_due, read_effect};

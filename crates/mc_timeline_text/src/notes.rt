@@ -1,9 +1,7 @@
 //! Reads the notes of a timeline.
 ghost use Rattle.std.specs.Prelude.{◌≡◌, ◌≢◌, ◌↔◌, ◌⊎◌, [], ◌∷◌, IsTrue, IfOk, IfErr};
-ghost use Rattle.mc_history.specs.HistoryText.{end_line, explain_line};
-ghost use Rattle.mc_history.specs.Refuses.{Refuses};
-ghost use Rattle.mc_timeline_text.specs.TimelineTexts.{Spelled, SpellsTimelineTail};
-ghost use Rattle.mc_timeline_text.specs.TimelineParts.{SpellsNotes};
+ghost use Rattle.mc_history.specs.{HistoryText.end_line, HistoryText.explain_line, Refuses.Refuses};
+ghost use Rattle.mc_timeline_text.specs.{TimelineTexts.Spelled, TimelineTexts.SpellsTimelineTail, TimelineParts.SpellsNotes};
 
 use crate::clients::read_client;
 use crate::rules::misread_note;

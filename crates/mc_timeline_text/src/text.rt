@@ -1,7 +1,6 @@
 //! Reads the text of a timeline.
 ghost use Rattle.std.specs.Prelude.{◌≡◌, ◌↔◌, ◌⊎◌, ◌∷◌, IfOk, IfErr};
-ghost use Rattle.mc_history.specs.HistoryText.{end_line, explain_line};
-ghost use Rattle.mc_history.specs.Refuses.{Refuses};
+ghost use Rattle.mc_history.specs.{HistoryText.end_line, HistoryText.explain_line, Refuses.Refuses};
 ghost use Rattle.mc_linearize.specs.Claims.{TimelineClaim};
 ghost use Rattle.mc_timeline_text.specs.TimelineTexts.{Spelled, SpellsTimelineTail, SpellsTimelineText};
 ghost use Rattle.mc_timeline_text.specs.TimelineParts.{SpellsStarts, SpellsMoves};

@@ -2,8 +2,7 @@
 use Rattle.std.proofs.Common.{◌≡◌, ◌≢◌, ◌<◌, ℕ, zero, suc, None, List, [], ◌∷◌, ◌++◌, take, get_or, length, append_assoc, append-nil, sym, subst, arith, refl}
 use Rattle.mc_model.specs.declared.rules.HistoryKind.{HistoryKind}
 use Rattle.mc_model.specs.declared.rules.HistoryKind.TheVariants as kind
-use Rattle.mc_timeline.specs.Timelines.{ClientNote}
-use Rattle.mc_timeline.specs.Rules.{KeepRules, fault_of}
+use Rattle.mc_timeline.specs.{Timelines.ClientNote, Rules.KeepRules, Rules.fault_of}
 
 pub kept_front : (earlier notes : List ClientNote) (n : ℕ) → KeepRules earlier notes → KeepRules earlier (take n notes)
 kept_front earlier notes zero keeps = tt

@@ -1,9 +1,9 @@
 -- The lines of an explanation, one after the other.
 use Rattle.std.proofs.Common.{◌≡◌, ◌<◌, ◌≤◌, ◌+◌, ◌⊎◌, inl, inr, ℕ, replicate, get_or}
 use Rattle.std.proofs.Common.{List, ◌∷◌, ◌++◌, take, drop, length, sym, subst, ap, ◌∙◌, append_assoc}
-use Rattle.std.specs.List.{flat_map}
 use Rattle.std.proofs.lemmas.Bool.{cases_lt}
 use Rattle.std.proofs.lemmas.List.{drop_more, flat_map_more, get_or_past, get_or-replicate, length-replicate, take_more}
+use Rattle.std.specs.List.{flat_map}
 use Rattle.mc_timeline.specs.Timelines.{ClientNote}
 use Rattle.mc_linearize.specs.declared.explanation.TimelineMove.{TimelineMove}
 use Rattle.mc_timeline_why.specs.Cursors.{places_in}

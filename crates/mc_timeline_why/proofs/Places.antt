@@ -1,14 +1,10 @@
 -- The place at which requests become unexplained.
 use Rattle.std.proofs.Common.{◌≡◌, ◌<◌, ◌≤◌, ◌+◌, inl, inr, ℕ, List, [], ◌∷◌, ◌++◌, length, refl, sym, subst, ap, arith}
-use Rattle.std.proofs.lemmas.Bool.{cases_lt}
-use Rattle.std.proofs.lemmas.List.{take_all}
+use Rattle.std.proofs.{lemmas.Bool.cases_lt, lemmas.List.take_all}
 use Rattle.mc_timeline.specs.Timelines.{ClientNote, operations_of, restricted}
-use Rattle.mc_timeline.specs.Operations.{Operation, IsLinearization}
-use Rattle.mc_timeline.specs.Explanations.{IsExplained}
-use Rattle.mc_linearize.specs.Claims.{ExplainsTimeline, TimelineClaim}
-use Rattle.mc_linearize.specs.Verdicts.{IsUnexplained}
-use Rattle.mc_timeline_why.specs.Fronts.{front}
-use Rattle.mc_timeline_why.specs.TimelineCauses.{IsUnexplainedAtPlace}
+use Rattle.mc_timeline.specs.{Operations.Operation, Operations.IsLinearization, Explanations.IsExplained}
+use Rattle.mc_linearize.specs.{Claims.ExplainsTimeline, Claims.TimelineClaim, Verdicts.IsUnexplained}
+use Rattle.mc_timeline_why.specs.{Fronts.front, TimelineCauses.IsUnexplainedAtPlace}
 
 abbrev pub no_moves : TimelineClaim
 no_moves = record { start = []; moves = [] }

@@ -1,8 +1,7 @@
 -- What the private search for a place finds.
 use Rattle.std.specs.Prelude.{◌<◌, ℕ, List, length}
 use Rattle.mc_timeline.specs.Timelines.{ClientNote}
-use Rattle.mc_timeline_why.specs.TimelineCauses.{IsUnexplainedAtPlace}
-use Rattle.mc_timeline_why.specs.declared.locating.Located.{Located}
+use Rattle.mc_timeline_why.specs.{TimelineCauses.IsUnexplainedAtPlace, declared.locating.Located.Located}
 use Rattle.mc_timeline_why.specs.declared.locating.Located.TheVariants as located
 
 abbrev pub IsPlaceOn : List ClientNote → List ℕ → Located → Type 0

@@ -1,10 +1,8 @@
 -- From which place on nothing explains the requests of a timeline on one key.
 use Rattle.std.specs.Prelude.{◌≡◌, ◌<◌, ◌+◌, ℕ, List, [], length}
 use Rattle.mc_timeline.specs.Timelines.{ClientNote}
-use Rattle.mc_linearize.specs.Claims.{ExplainsTimeline, TimelineClaim}
-use Rattle.mc_linearize.specs.Verdicts.{IsUnexplained}
-use Rattle.mc_timeline_why.specs.Fronts.{front, overlapping}
-use Rattle.mc_timeline_why.specs.declared.cause.TimelineFinding.{TimelineFinding}
+use Rattle.mc_linearize.specs.{Claims.ExplainsTimeline, Claims.TimelineClaim, Verdicts.IsUnexplained}
+use Rattle.mc_timeline_why.specs.{Fronts.front, Fronts.overlapping, declared.cause.TimelineFinding.TimelineFinding}
 use Rattle.mc_timeline_why.specs.declared.cause.TimelineFinding.TheVariants as finding
 
 -- the note at the place is the one with which the requests on the key become unexplained: the claim explains what stands before it,

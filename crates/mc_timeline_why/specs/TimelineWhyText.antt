@@ -2,18 +2,13 @@
 use Rattle.std.specs.Prelude.{ℕ, ◌+◌, Bool, ◌||◌, eqb, cond, if◌then◌else◌, Option, Some, None}
 use Rattle.std.specs.Prelude.{List, [], ◌∷◌, ◌++◌, codes, decimal, drop, slice_get, bytes_eq}
 use Rattle.std.specs.List.{flat_map}
-use Rattle.mc_protocol.specs.Lines.{Words}
-use Rattle.mc_protocol.specs.declared.{request.Request.Request, reply.Reply.Reply}
+use Rattle.mc_protocol.specs.{Lines.Words, declared.request.Request.Request, declared.reply.Reply.Reply}
 use Rattle.mc_model.specs.declared.note.Note.TheVariants as note
 use Rattle.mc_model.specs.Words.{join_words, request_words}
-use Rattle.mc_history.specs.HistoryText.{marks_of}
-use Rattle.mc_history.specs.PrintedHistory.{answer_words, line_text, start_words}
-use Rattle.mc_timeline.specs.Timelines.{ClientNote}
-use Rattle.mc_timeline.specs.TimelineText.{client_note_words}
-use Rattle.mc_linearize.specs.declared.explanation.TimelineMove.{TimelineMove}
-use Rattle.mc_linearize.specs.Claims.{TimelineClaim}
-use Rattle.mc_timeline_why.specs.Fronts.{front}
-use Rattle.mc_timeline_why.specs.declared.cause.TimelineFinding.{TimelineFinding}
+use Rattle.mc_history.specs.{HistoryText.marks_of, PrintedHistory.answer_words, PrintedHistory.line_text, PrintedHistory.start_words}
+use Rattle.mc_timeline.specs.{Timelines.ClientNote, TimelineText.client_note_words}
+use Rattle.mc_linearize.specs.{declared.explanation.TimelineMove.TimelineMove, Claims.TimelineClaim}
+use Rattle.mc_timeline_why.specs.{Fronts.front, declared.cause.TimelineFinding.TimelineFinding}
 use Rattle.mc_timeline_why.specs.declared.cause.TimelineFinding.TheVariants as finding
 
 -- ---- the moves, each with its request and reply

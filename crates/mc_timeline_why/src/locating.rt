@@ -2,8 +2,7 @@
 ghost use Rattle.std.specs.Prelude.{◌≡◌, [], length, IfOk};
 ghost use Rattle.mc_timeline.specs.Timelines.{restricted};
 ghost use Rattle.mc_linearize.specs.Verdicts.{IsTrueOf, IsUnexplained};
-ghost use Rattle.mc_timeline_why.specs.Fronts.{front};
-ghost use Rattle.mc_timeline_why.specs.Locating.{IsPlaceOn};
+ghost use Rattle.mc_timeline_why.specs.{Fronts.front, Locating.IsPlaceOn};
 
 use crate::cutting::cut_timeline;
 use mc_linearize::{KeyVerdict, TimelineExplanation, judge_key};

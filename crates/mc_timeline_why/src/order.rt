@@ -1,7 +1,6 @@
 //! Prints what explains the requests on a key before a place, with the request and the reply of each move.
 ghost use Rattle.std.specs.Prelude.{◌≡◌, ◌<◌, ◌++◌, drop, length, OnOk, IfSome, codes};
-ghost use Rattle.std.specs.List.{flat_map};
-ghost use Rattle.std.specs.Option.{option_copied};
+ghost use Rattle.std.specs.{List.flat_map, Option.option_copied};
 ghost use Rattle.mc_model.specs.Words.{join_words};
 ghost use Rattle.mc_history.specs.PrintedHistory.{answer_words};
 ghost use Rattle.mc_timeline_why.specs.Cursors.{begins_for, places_in};

@@ -6,17 +6,13 @@ use Rattle.mc_protocol.specs.Sections as sections
 use Rattle.mc_protocol.specs.declared.actor.Actor.{Actor}
 use Rattle.mc_protocol.specs.declared.actor.Actor.TheVariants as actor
 use Rattle.mc_script.specs.declared.step.Template.{Template}
-use Rattle.mc_code.specs.Calls.{SendsAt, calls_of}
-use Rattle.mc_code.specs.Code.{Code, section_of, instructions_in}
+use Rattle.mc_code.specs.{Calls.SendsAt, Calls.calls_of, Code.Code, Code.section_of, Code.instructions_in}
 use Rattle.mc_code.specs.declared.instr.Instr.TheVariants as instr
-use Rattle.mc_flow.specs.Costs.{cost_along, bound_of}
+use Rattle.mc_sound.specs.{Costs.cost_along, Costs.bound_of, declared.measure.Measure.Measure, declared.refusal_kind.RefusalKind.RefusalKind, Faults.MayExceed}
+use Rattle.mc_sound.specs.{Faults.IsFault, Faults.HasNone}
 use Rattle.mc_flow.specs.CostTables.{IsOpened}
-use Rattle.mc_verify.specs.FaultGroups.{kind_of}
-use Rattle.mc_verify.specs.Faults.{MayExceed, IsFault, HasNone}
-use Rattle.mc_verify.specs.Lowest.{FindsLowest, IsLowest}
-use Rattle.mc_flow.specs.declared.measure.Measure.{Measure}
-use Rattle.mc_flow.specs.declared.measure.Measure.TheVariants as measure
-use Rattle.mc_verify.specs.declared.refusal.RefusalKind.{RefusalKind}
+use Rattle.mc_verify.specs.{FaultGroups.kind_of, Lowest.FindsLowest, Lowest.IsLowest}
+use Rattle.mc_sound.specs.declared.measure.Measure.TheVariants as measure
 use Rattle.mc_flow.proofs.SectionCosts.{IsCostAt}
 
 -- ---- budgets

@@ -1,20 +1,15 @@
 -- Faults of variables as what kinds come to at an instruction.
 use Rattle.std.proofs.Common.{◌≡◌, inl, inr, ℕ, ◌+◌, ◌==◌, Bool, true, false, not, ◌&&◌, Option, Some, None, List, refl, ap, sym, ◌∙◌, arith, if◌then◌else◌}
-use Rattle.std.proofs.lemmas.Bool.{eq-eqb}
-use Rattle.std.proofs.lemmas.Bool.Decides.{eqb_tells}
+use Rattle.std.proofs.{lemmas.Bool.eq-eqb, lemmas.Bool.Decides.eqb_tells}
 use Rattle.mc_protocol.specs.declared.actor.Actor.{Actor}
 use Rattle.mc_script.specs.declared.step.Template.{Template}
-use Rattle.mc_code.specs.Code.{Code}
-use Rattle.mc_code.specs.Runs.{Exchange}
-use Rattle.mc_code.specs.Standing.{StandsAt, BeginsAfter, met_in}
 use Rattle.mc_code.specs.States.{Tagged, is_number, is_same, State, Outcome, call, unbound, wrong_kind, nothing_to_bind, outside, ended, wanted_by, call_with}
-use Rattle.mc_code.specs.declared.kind.Kind.{Kind}
+use Rattle.mc_code.specs.{Code.Code, Runs.Exchange, Standing.StandsAt, Standing.BeginsAfter, Standing.met_in, declared.kind.Kind.Kind}
 use Rattle.mc_code.specs.declared.kind.Kind.TheVariants as kind
-use Rattle.mc_verify.specs.Faults.{MayComeTo, IsFault}
-use Rattle.mc_flow.specs.Kinds.{kind_index}
 use Rattle.mc_verify.specs.VariableFaults.{is_outcome, IsOfVariables, is_wrong, is_of_binds}
-use Rattle.mc_verify.specs.declared.refusal.RefusalKind.{RefusalKind}
-use Rattle.mc_verify.specs.declared.refusal.RefusalKind.TheVariants as refusal
+use Rattle.mc_sound.specs.{Faults.MayComeTo, Faults.IsFault, declared.refusal_kind.RefusalKind.RefusalKind}
+use Rattle.mc_flow.specs.Kinds.{kind_index}
+use Rattle.mc_sound.specs.declared.refusal_kind.RefusalKind.TheVariants as refusal
 
 -- ---- faults as outcomes
 

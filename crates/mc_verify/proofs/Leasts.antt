@@ -4,11 +4,10 @@ use Rattle.std.proofs.lemmas.Bool.{cases_lt}
 use Rattle.mc_protocol.specs.declared.actor.Actor.{Actor}
 use Rattle.mc_protocol.specs.declared.actor.Actor.TheVariants as actor
 use Rattle.mc_code.specs.Code.{Code}
-use Rattle.mc_verify.specs.Faults.{IsFault, HasNone, IsStructured}
+use Rattle.mc_sound.specs.{LeastFaults.kind_number, LeastFaults.section_number, LeastFaults.IsBefore, LeastFaults.IsLeastFrom, LeastFaults.HasNoneFrom}
+use Rattle.mc_sound.specs.{Faults.IsFault, Faults.HasNone, Faults.IsStructured, declared.refusal_kind.RefusalKind.RefusalKind}
 use Rattle.mc_verify.specs.Lowest.{IsFreeOf, IsLowest}
-use Rattle.mc_verify.specs.Refusals.{kind_number, section_number, IsBefore, IsLeastFrom, HasNoneFrom}
-use Rattle.mc_verify.specs.declared.refusal.RefusalKind.{RefusalKind}
-use Rattle.mc_verify.specs.declared.refusal.RefusalKind.TheVariants as kind
+use Rattle.mc_sound.specs.declared.refusal_kind.RefusalKind.TheVariants as kind
 
 -- ---- kinds with their numbers
 

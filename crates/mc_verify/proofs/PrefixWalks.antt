@@ -3,14 +3,12 @@ use Rattle.std.proofs.Common.{◌≡◌, ℕ, None, Some, [], ◌∷◌, ◌++�
 use Rattle.mc_protocol.specs.declared.actor.Actor.TheVariants as actor
 use Rattle.mc_protocol.specs.declared.reply.Class.{Class}
 use Rattle.mc_script.specs.declared.step.Template.{Template}
-use Rattle.mc_code.specs.Code.{Code, instructions_in}
-use Rattle.mc_code.specs.Paths.{Slides, Sends}
-use Rattle.mc_code.specs.declared.instr.Instr.{Instr}
+use Rattle.mc_code.specs.{Code.Code, Code.instructions_in, Paths.Slides, Paths.Sends, declared.instr.Instr.Instr}
 use Rattle.mc_code.proofs.PathLemmas.{path_slides, path_sends}
-use Rattle.mc_verify.specs.Faults.{IsStructured}
+use Rattle.mc_sound.specs.Faults.{IsStructured}
 use Rattle.mc_verify.specs.Traces.{LeadsOnInP}
 use Rattle.mc_verify.proofs.ShownReplies.{front_one_more}
-use Rattle.mc_flow.proofs.Structured.{structured_slides, structured_sends}
+use Rattle.mc_sound.proofs.Structured.{structured_slides, structured_sends}
 
 pub p_slides : (c : Code) → IsStructured c actor.P → (i : Instr) (p q : ℕ) → slice_get (instructions_in c actor.P) p ≡ Some i → Slides i p q
     → LeadsOnInP c p None q

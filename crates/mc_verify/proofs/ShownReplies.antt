@@ -1,12 +1,11 @@
 -- The replies along ways, and what one more move adds to them.
 use Rattle.std.proofs.Common.{◌≡◌, List, [], ◌∷◌, ◌++◌, ap, sym, ◌∙◌}
 use Rattle.std.proofs.lemmas.List.{append_assoc, map-append}
-use Rattle.mc_protocol.specs.declared.actor.Actor.{Actor}
-use Rattle.mc_protocol.specs.declared.reply.Class.{Class}
+use Rattle.mc_protocol.specs.{declared.actor.Actor.Actor, declared.reply.Class.Class}
 use Rattle.mc_script.specs.declared.step.Template.{Template}
 use Rattle.mc_code.specs.Paths.{Edge}
 use Rattle.mc_verify.specs.Shown.{replies_along}
-use Rattle.mc_flow.specs.Ways.{Stage, staged}
+use Rattle.mc_sound.specs.Interleavings.{Stage, staged}
 
 -- one more edge of the section
 pub staged_one_more : (actor : Actor) (edges : List Edge) (t : Template) (class : Class)

@@ -1,14 +1,9 @@
 -- Paths that cost what a table of costs says, and their replies. What private contracts cite.
 use Rattle.std.specs.Prelude.{◌≡◌, ℕ, ◌≤◌, List, ◌++◌}
-use Rattle.mc_protocol.specs.declared.actor.Actor.{Actor}
-use Rattle.mc_protocol.specs.declared.reply.Class.{Class}
-use Rattle.mc_code.specs.Calls.{LeadsIn, calls_of}
-use Rattle.mc_code.specs.Code.{Code}
-use Rattle.mc_code.specs.Paths.{Edge}
-use Rattle.mc_flow.specs.Costs.{cost_along}
+use Rattle.mc_protocol.specs.{declared.actor.Actor.Actor, declared.reply.Class.Class}
+use Rattle.mc_code.specs.{Calls.LeadsIn, Calls.calls_of, Code.Code, Paths.Edge}
+use Rattle.mc_sound.specs.{Costs.cost_along, Interleavings.staged, declared.measure.Measure.Measure}
 use Rattle.mc_verify.specs.Shown.{replies_along, front, IsBegun}
-use Rattle.mc_flow.specs.Ways.{staged}
-use Rattle.mc_flow.specs.declared.measure.Measure.{Measure}
 
 -- these are the replies of a path to the place that costs this or more; for a branch after those of a complete path of P
 pub record CostsAlong (c : Code) (actor : Actor) (measure : Measure) (place cost : ℕ) (replies : List (Actor × Class)) : Type 0 where

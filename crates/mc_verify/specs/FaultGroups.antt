@@ -1,10 +1,9 @@
 -- Groups of kinds of faults that are looked for by the same tables: those of flags, and those of budgets. Private contracts
 -- cite them.
 use Rattle.std.specs.Prelude.{◌≡◌, ◌⊎◌, Bool, true, false}
-use Rattle.mc_verify.specs.declared.refusal.RefusalKind.{RefusalKind}
-use Rattle.mc_verify.specs.declared.refusal.RefusalKind.TheVariants as kind
-use Rattle.mc_flow.specs.declared.measure.Measure.{Measure}
-use Rattle.mc_flow.specs.declared.measure.Measure.TheVariants as measure
+use Rattle.mc_sound.specs.{declared.refusal_kind.RefusalKind.RefusalKind, declared.measure.Measure.Measure}
+use Rattle.mc_sound.specs.declared.refusal_kind.RefusalKind.TheVariants as kind
+use Rattle.mc_sound.specs.declared.measure.Measure.TheVariants as measure
 
 -- the kind of fault where a send needs a flag to have this value, and it may have the other one
 abbrev pub lack_kind : Bool → RefusalKind

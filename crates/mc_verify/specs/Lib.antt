@@ -1,10 +1,6 @@
 -- What the public contracts cite.
-pub mod Clearing
-pub mod Faults
 pub mod Refusals
-pub mod Checked
 pub mod Shown
-pub mod Laws
 -- What private contracts cite.
 pub mod FlowTraces
 pub mod FaultGroups
@@ -14,7 +10,3 @@ pub mod Traces
 pub mod CostTraces
 pub mod KindTraces
 pub mod FlagTraces
-pub mod Trails
-pub mod FlagTrails
-pub mod CostTrails
-pub mod KindTrails

@@ -2,10 +2,8 @@
 use Rattle.std.specs.Prelude.{ℕ, ◌<◌, Option, Some, None}
 use Rattle.mc_protocol.specs.declared.actor.Actor.{Actor}
 use Rattle.mc_code.specs.Code.{Code}
-use Rattle.mc_verify.specs.Faults.{IsFault, HasNone}
-use Rattle.mc_verify.specs.Refusals.{HasNoneFrom}
-use Rattle.mc_verify.specs.declared.refusal.RefusalKind.{RefusalKind}
-use Rattle.mc_verify.specs.declared.refusal.RefusalKind.TheVariants as kind
+use Rattle.mc_sound.specs.{Faults.IsFault, Faults.HasNone, LeastFaults.HasNoneFrom, declared.refusal_kind.RefusalKind.RefusalKind}
+use Rattle.mc_sound.specs.declared.refusal_kind.RefusalKind.TheVariants as kind
 
 -- of the faults of the kind in the section, this is the one at the lowest place
 pub record IsLowest (c : Code) (kind : RefusalKind) (actor : Actor) (place : ℕ) : Type 0 where

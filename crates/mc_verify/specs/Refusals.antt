@@ -1,43 +1,11 @@
--- Refusals: the numbers and names of their kinds, their order, and the least fault.
-use Rattle.std.specs.Prelude.{◌≡◌, ◌⊎◌, ℕ, ◌<◌, ◌≤◌, List, codes}
-use Rattle.mc_protocol.specs.declared.actor.Actor.{Actor}
+-- Refusals: why code isn't sound, and the run that shows it.
+use Rattle.std.specs.Prelude.{◌≡◌, ◌⊎◌, ℕ, List, []}
+use Rattle.mc_protocol.specs.{declared.actor.Actor.Actor, declared.reply.Class.Class}
 use Rattle.mc_protocol.specs.declared.actor.Actor.TheVariants as actor
-use Rattle.mc_protocol.specs.declared.reply.Class.{Class}
 use Rattle.mc_code.specs.Code.{Code}
-use Rattle.mc_verify.specs.Faults.{IsFault, HasNone}
-use Rattle.mc_verify.specs.declared.code_fault.CodeFault.{CodeFault}
-use Rattle.mc_verify.specs.declared.refusal.RefusalKind.{RefusalKind}
-use Rattle.mc_verify.specs.declared.refusal.RefusalKind.TheVariants as kind
-
--- ---- kinds, as a refusal shows them
-
-abbrev pub kind_number : RefusalKind → ℕ
-kind_number kind.BadTarget = 1
-kind_number kind.BadIndex = 2
-kind_number kind.NoHalt = 3
-kind_number kind.NotCleared = 4
-kind_number kind.Unbound = 5
-kind_number kind.WrongKind = 6
-kind_number kind.NothingToBind = 7
-kind_number kind.FlagMayBeClear = 8
-kind_number kind.FlagMayBeSet = 9
-kind_number kind.TooManyRequests = 10
-kind_number kind.TooManyBytes = 11
-kind_number kind.OutOfMemory = 12
-
-abbrev pub kind_name : RefusalKind → List ℕ
-kind_name kind.BadTarget = codes "BadTarget"
-kind_name kind.BadIndex = codes "BadIndex"
-kind_name kind.NoHalt = codes "NoHalt"
-kind_name kind.NotCleared = codes "NotCleared"
-kind_name kind.Unbound = codes "Unbound"
-kind_name kind.WrongKind = codes "WrongKind"
-kind_name kind.NothingToBind = codes "NothingToBind"
-kind_name kind.FlagMayBeClear = codes "FlagMayBeClear"
-kind_name kind.FlagMayBeSet = codes "FlagMayBeSet"
-kind_name kind.TooManyRequests = codes "TooManyRequests"
-kind_name kind.TooManyBytes = codes "TooManyBytes"
-kind_name kind.OutOfMemory = codes "OutOfMemory"
+use Rattle.mc_sound.specs.{LeastFaults.IsLeastFrom, declared.code_fault.CodeFault.CodeFault, declared.refusal_kind.RefusalKind.RefusalKind}
+use Rattle.mc_sound.specs.declared.refusal_kind.RefusalKind.TheVariants as kind
+use Rattle.mc_verify.specs.Shown.{IsShownBy}
 
 -- why code is refused: its fault, and the section and the class of each reply before it
 pub record Refusal : Type 0 where
@@ -46,32 +14,32 @@ pub record Refusal : Type 0 where
   pub place : ℕ
   pub shown : List (Actor × Class)
 
--- ---- the least fault
+-- the fault that a refusal names
+abbrev pub fault_of : Refusal → CodeFault
+fault_of refusal = record { kind = refusal.kind; actor = refusal.actor; place = refusal.place }
 
--- where a section stands in the order of the sections
-abbrev pub section_number : Actor → ℕ
-section_number actor.P = 0
-section_number actor.A = 1
-section_number actor.B = 2
+-- the replies are those of a run that shows the fault; of a fault of structure, and where memory ran out, there are none
+abbrev pub AreRightFor : Code → RefusalKind → Actor → ℕ → List (Actor × Class) → Type 0
+AreRightFor c kind.BadTarget actor place shown = shown ≡ []
+AreRightFor c kind.BadIndex actor place shown = shown ≡ []
+AreRightFor c kind.NoHalt actor place shown = shown ≡ []
+AreRightFor c kind.NotCleared actor place shown = shown ≡ []
+AreRightFor c kind.OutOfMemory actor place shown = shown ≡ []
+AreRightFor c kind actor place shown = IsShownBy c kind actor place shown
 
--- the first of two faults: the kind counts first, then the section, then the place
-abbrev pub IsBefore : RefusalKind → Actor → ℕ → RefusalKind → Actor → ℕ → Type 0
-IsBefore kind actor place other_kind other_actor other_place =
-    (kind_number kind < kind_number other_kind)
-    ⊎ ((kind ≡ other_kind)
-    × ((section_number actor < section_number other_actor) ⊎ ((actor ≡ other_actor) × (place < other_place))))
+-- the refusal names the least fault of the kinds with this number or a greater one, and its replies are right
+pub record IsRefusalFrom (c : Code) (number : ℕ) (refusal : Refusal) : Type 0 where
+  pub least : IsLeastFrom c number (fault_of refusal)
+  pub shown : AreRightFor c refusal.kind refusal.actor refusal.place refusal.shown
 
--- the fault stands there, and none before it stands anywhere, of the kinds with this number or a greater one
-pub record IsLeastFrom (c : Code) (number : ℕ) (fault : CodeFault) : Type 0 where
-  pub stands : IsFault c fault.kind fault.actor fault.place
-  pub first : (kind : RefusalKind) (actor : Actor) (place : ℕ) → number ≤ kind_number kind
-      → IsBefore kind actor place fault.kind fault.actor fault.place → IsFault c kind actor place → ⊥
+-- the refusal is one for the code: it names the code's least fault, and shows it by a run, if it isn't one of structure
+abbrev pub IsRightRefusal : Code → Refusal → Type 0
+IsRightRefusal c refusal = IsRefusalFrom c 1 refusal
 
--- the least of all faults
-abbrev pub IsLeast : Code → CodeFault → Type 0
-IsLeast c fault = IsLeastFrom c 1 fault
+-- that memory ran out
+abbrev pub out_of_memory : Refusal
+out_of_memory = record { kind = kind.OutOfMemory; actor = actor.P; place = 0; shown = [] }
 
--- no fault stands anywhere, of the kinds from this number to the one before that number
-abbrev pub HasNoneFrom : Code → ℕ → ℕ → Type 0
-HasNoneFrom c from to =
-    (kind : RefusalKind) (actor : Actor) → from ≤ kind_number kind → kind_number kind < to → HasNone c kind actor
+-- the refusal is one for the code, or it is that memory ran out
+abbrev pub IsRefusalOf : Code → Refusal → Type 0
+IsRefusalOf c refusal = IsRightRefusal c refusal ⊎ (refusal ≡ out_of_memory)

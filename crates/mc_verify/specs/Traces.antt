@@ -1,13 +1,10 @@
 -- Moves of a section, and what they add to the replies of a run. What private contracts cite.
 use Rattle.std.specs.Prelude.{◌≡◌, ℕ, ◌<◌, Option, Some, None, List, [], ◌∷◌, ◌++◌, length}
-use Rattle.mc_protocol.specs.declared.actor.Actor.{Actor}
+use Rattle.mc_protocol.specs.{declared.actor.Actor.Actor, declared.reply.Class.Class}
 use Rattle.mc_protocol.specs.declared.actor.Actor.TheVariants as actor
-use Rattle.mc_protocol.specs.declared.reply.Class.{Class}
-use Rattle.mc_code.specs.Calls.{LeadsIn}
-use Rattle.mc_code.specs.Code.{Code, instructions_in}
-use Rattle.mc_code.specs.Paths.{Edge, IsComplete}
+use Rattle.mc_code.specs.{Calls.LeadsIn, Code.Code, Code.instructions_in, Paths.Edge, Paths.IsComplete}
 use Rattle.mc_verify.specs.Shown.{replies_along, front, IsBegun}
-use Rattle.mc_flow.specs.Ways.{staged}
+use Rattle.mc_sound.specs.Interleavings.{staged}
 
 -- the section's reply of this class, if the move has one
 abbrev pub replies_by : Actor → Option Class → List (Actor × Class)

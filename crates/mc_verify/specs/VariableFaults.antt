@@ -3,12 +3,9 @@ use Rattle.std.specs.Prelude.{◌≡◌, ℕ, ◌≤◌, ◌<◌, ◌==◌, Bool
 use Rattle.mc_script.specs.declared.step.Argument.TheVariants as argument
 use Rattle.mc_script.specs.declared.step.Template.{Template}
 use Rattle.mc_code.specs.States.{Outcome, unbound, wrong_kind, nothing_to_bind, wanted_by}
-use Rattle.mc_flow.specs.Kinds.{kind_index}
-use Rattle.mc_verify.specs.Refusals.{kind_number}
-use Rattle.mc_flow.specs.RunKinds.{may_stand}
-use Rattle.mc_flow.specs.declared.kind_pairs.KindPairs.{KindPairs}
-use Rattle.mc_verify.specs.declared.refusal.RefusalKind.{RefusalKind}
-use Rattle.mc_verify.specs.declared.refusal.RefusalKind.TheVariants as refusal
+use Rattle.mc_flow.specs.{Kinds.kind_index, RunKinds.may_stand, declared.kind_pairs.KindPairs.KindPairs}
+use Rattle.mc_sound.specs.{LeastFaults.kind_number, declared.refusal_kind.RefusalKind.RefusalKind}
+use Rattle.mc_sound.specs.declared.refusal_kind.RefusalKind.TheVariants as refusal
 
 -- a fault of variables, to which a run comes
 abbrev pub IsOfVariables : RefusalKind → Type 0

@@ -3,16 +3,17 @@ ghost use Rattle.std.specs.Prelude.{◌≡◌, ◌↔◌, ◌<◌, IfNone, IfSom
 ghost use Rattle.mc_protocol.specs.Sections as sections;
 ghost use Rattle.mc_protocol.specs.declared.actor.Actor.{Actor as Section};
 ghost use Rattle.mc_code.specs.Code as codes;
-ghost use Rattle.mc_flow.specs.Costs.{bound_of};
+ghost use Rattle.mc_sound.specs.Costs.{bound_of};
 ghost use Rattle.mc_flow.specs.CostTables as costs;
 ghost use Rattle.mc_verify.specs.FaultGroups.{kind_of};
-ghost use Rattle.mc_verify.specs.Faults as faults;
+ghost use Rattle.mc_sound.specs.Faults as faults;
 ghost use Rattle.mc_verify.specs.Lowest as lowest_faults;
 
 use mc_code::Code;
-use mc_flow::{CostTables, Measure};
+use mc_flow::CostTables;
 use mc_protocol::{Actor, Sections};
 use mc_script::Budget;
+use mc_sound::Measure;
 
 /// For each section the lowest place with a request that exceeds the section's budget after some path.
 #[tactic(auto, using(crate::proofs::Exceeding::found_in_sections))]
@@ -62,7 +63,7 @@ fn exceeds(code: &Code, tables: &CostTables, measure: Measure, actor: Actor, pla
 }
 
 /// What the budget allows by the measure.
-pub(crate) fn bound(measure: Measure, budget: Budget) -> u32
+pub fn bound(measure: Measure, budget: Budget) -> u32
     ensures { result ≡ bound_of measure budget }
 {
     match measure {

@@ -1,15 +1,15 @@
 //! Whether P begins with a delete of each key.
 ghost use Rattle.std.specs.Prelude.{◌≡◌, ◌<◌, IfNone, IfSome, slice_get};
-ghost use Rattle.mc_verify.specs.Faults as faults;
+ghost use Rattle.mc_sound.specs.Faults as faults;
 ghost use Rattle.mc_verify.specs.Lowest as lowest_faults;
-ghost use Rattle.mc_flow.specs.Structure as structure;
-ghost use Rattle.mc_verify.specs.Clearing.{clears_at, is_delete, is_delete_of};
+ghost use Rattle.mc_sound.specs.Structure as structure;
+ghost use Rattle.mc_sound.specs.Clearing.{clears_at, is_delete, is_delete_of};
 
-use crate::RefusalKind;
 use crate::section::key_count;
 use mc_code::{Code, Instr, entry};
 use mc_protocol::{Actor, Class, KEYS_LIMIT, Verb};
 use mc_script::Template;
+use mc_sound::RefusalKind;
 
 /// The lowest place of P whose instruction doesn't clear the key with the place's number. The branches clear no keys.
 pub(crate) fn lowest_not_cleared(code: &Code, actor: Actor) -> Option<u8>

@@ -3,23 +3,22 @@ ghost use Rattle.std.specs.Prelude.{◌≡◌, IfErr, IfOk};
 ghost use Rattle.mc_protocol.specs.Sections as sections;
 ghost use Rattle.mc_protocol.specs.declared.actor.Actor.{Actor as Section};
 ghost use Rattle.mc_code.specs.Code as codes;
-ghost use Rattle.mc_verify.specs.Checked as checked;
-ghost use Rattle.mc_flow.specs.Costs as spec;
-ghost use Rattle.mc_flow.specs.CostTables as costs;
-ghost use Rattle.mc_verify.specs.FaultGroups.{IsOfBudgets};
-ghost use Rattle.mc_verify.specs.Faults as faults;
-ghost use Rattle.mc_verify.specs.Lowest as lowest_faults;
 ghost use Rattle.mc_verify.specs.Refusals as refusals;
-ghost use Rattle.mc_verify.specs.Shown.{IsShownBy};
+ghost use Rattle.mc_sound.specs.Costs as spec;
+ghost use Rattle.mc_flow.specs.CostTables as costs;
+ghost use Rattle.mc_verify.specs.{FaultGroups.IsOfBudgets, Shown.IsShownBy};
+ghost use Rattle.mc_sound.specs.Faults as faults;
+ghost use Rattle.mc_verify.specs.Lowest as lowest_faults;
+ghost use Rattle.mc_sound.specs.LeastFaults as least_faults;
 
+use crate::Refusal;
 use crate::budgets::lowest_places;
-use crate::code_fault::CodeFault;
 use crate::cost_trace::excess_run;
 use crate::lowest::check_kind;
-use crate::{Cost, Measure, Refusal, RefusalKind};
 use mc_code::Code;
 use mc_flow::CostTables;
 use mc_protocol::{Actor, Class, OutOfMemory, Sections};
+use mc_sound::{CodeFault, Cost, Measure, RefusalKind};
 use std::alloc::Global;
 
 /// What each section costs at most. The inner error is the least fault of the budgets, a section that may send more
@@ -29,8 +28,8 @@ pub(crate) fn costs(
     code: &Code,
 ) -> Result<Result<Sections<Cost>, Refusal>, OutOfMemory>
     requires { (actor : Section) → faults.IsStructured code.now actor }
-    ensures refused { IfOk result (λ answer. IfErr answer (checked.IsRefusalFrom code.now 10)) }
-    ensures none { IfOk result (λ answer. IfOk answer (λ _. refusals.HasNoneFrom code.now 10 12)) }
+    ensures refused { IfOk result (λ answer. IfErr answer (refusals.IsRefusalFrom code.now 10)) }
+    ensures none { IfOk result (λ answer. IfOk answer (λ _. least_faults.HasNoneFrom code.now 10 12)) }
     ensures requests { IfOk result (λ answer. IfOk answer (λ most. (actor : Section)
         → spec.IsGreatestCost code.now actor Measure.Requests (sections.section_of most actor).requests)) }
     ensures bytes { IfOk result (λ answer. IfOk answer (λ most. (actor : Section)
@@ -74,9 +73,9 @@ fn greatest_costs(code: &Code, tables: &CostTables) -> Result<Sections<Cost>, Co
     requires code { codes.IsCode code.now }
     requires structured { (actor : Section) → faults.IsStructured code.now actor }
     requires tables { costs.AreCostTables code.now tables.now }
-    ensures refused { IfErr result (refusals.IsLeastFrom code.now 10) }
+    ensures refused { IfErr result (least_faults.IsLeastFrom code.now 10) }
     ensures kind { IfErr result (λ fault. IsOfBudgets fault.kind) }
-    ensures none { IfOk result (λ _. refusals.HasNoneFrom code.now 10 12) }
+    ensures none { IfOk result (λ _. least_faults.HasNoneFrom code.now 10 12) }
     ensures requests { IfOk result (λ most. (actor : Section)
         → spec.IsGreatestCost code.now actor Measure.Requests (sections.section_of most actor).requests) }
     ensures bytes { IfOk result (λ most. (actor : Section)
@@ -95,7 +94,7 @@ fn check_budgets(code: &Code, tables: &CostTables) -> Result<(), CodeFault>
     requires code { codes.IsCode code.now }
     requires structured { (actor : Section) → faults.IsStructured code.now actor }
     requires tables { costs.AreCostTables code.now tables.now }
-    ensures least { IfErr result (refusals.IsLeastFrom code.now 10) }
+    ensures least { IfErr result (least_faults.IsLeastFrom code.now 10) }
     ensures kind { IfErr result (λ fault. IsOfBudgets fault.kind) }
     ensures none { IfOk result (λ _. lowest_faults.IsFreeOf code.now 10 12) }
 {

@@ -5,12 +5,11 @@
 ghost use Rattle.std.specs.Prelude.{◌≡◌, ◌+◌, IfErr, IfOk};
 ghost use Rattle.mc_protocol.specs.declared.actor.Actor as actor;
 ghost use Rattle.mc_verify.specs.Lowest as lowest_faults;
-ghost use Rattle.mc_verify.specs.Refusals as refusals;
+ghost use Rattle.mc_sound.specs.LeastFaults as least_faults;
 
-use crate::RefusalKind;
-use crate::code_fault::CodeFault;
 use mc_code::Code;
 use mc_protocol::Actor;
+use mc_sound::{CodeFault, RefusalKind};
 
 /// Checks that no section has a fault of the kind, where `lowest` answers the lowest place of a section that has one. The
 /// error is the fault at that place of the first such section.
@@ -22,10 +21,11 @@ pub(crate) fn check_kind<F: Fn(&Code, Actor) -> Option<u8>>(
 ) -> Result<(), CodeFault>
     requires callable { (actor : actor.Actor) → F.pre lowest code actor }
     requires finds { lowest_faults.FindsLowest code.now kind (F.post lowest code) }
-    requires free { lowest_faults.IsFreeOf code.now (lowest_faults.first_number kind) (refusals.kind_number kind) }
-    ensures least { IfErr result (refusals.IsLeastFrom code.now (lowest_faults.first_number kind)) }
+    requires free { lowest_faults.IsFreeOf code.now (lowest_faults.first_number kind) (least_faults.kind_number kind) }
+    ensures least { IfErr result (least_faults.IsLeastFrom code.now (lowest_faults.first_number kind)) }
     ensures kind { IfErr result (λ fault. fault.kind ≡ kind) }
-    ensures none { IfOk result (λ _. lowest_faults.IsFreeOf code.now (lowest_faults.first_number kind) (refusals.kind_number kind + 1)) }
+    ensures none { IfOk result (λ _.
+        lowest_faults.IsFreeOf code.now (lowest_faults.first_number kind) (least_faults.kind_number kind + 1)) }
 {
     'sections: for actor in [Actor::P, Actor::A, Actor::B] {
         if let Some(place) = lowest(code, actor) {

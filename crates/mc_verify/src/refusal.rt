@@ -1,103 +1,11 @@
 //! Why code is refused.
 ghost use Rattle.std.specs.Prelude.{◌≡◌};
-ghost use Rattle.mc_verify.specs.Checked as checked;
+ghost use Rattle.mc_verify.specs.Refusals as refusals;
 
-use crate::code_fault::CodeFault;
-use mc_protocol::{Actor, Class, FaultKind};
+use mc_protocol::{Actor, Class};
+use mc_sound::{CodeFault, RefusalKind};
 use std::alloc::Global;
 use std::marker::Model;
-use thiserror::Error;
-
-/// What is wrong with code that is refused, in the order in which the kinds are looked for.
-#[derive(Clone, Copy, Debug, Drop, PartialEq, Eq, Error)]
-pub enum RefusalKind {
-    /// A `goto`, or an entry of a class that the request may be answered with, doesn't lead to a later place of its
-    /// section; or another class has an entry.
-    #[error("expected a later place of the section, and no entry for a class that the request is never answered with")]
-    BadTarget,
-    /// A send's template or a bind's variable doesn't exist.
-    #[error("expected a template or a variable that exists")]
-    BadIndex,
-    /// The section's last instruction isn't a halt. The place is 0 where the section is empty.
-    #[error("expected a halt at the end of the section")]
-    NoHalt,
-    /// P doesn't begin with a delete of each key, in the order of the keys.
-    #[error("expected the delete of the key with the number of the place")]
-    NotCleared,
-    /// On some path a request's variable has no number. A branch begins with the variables of any end of P.
-    #[error("expected a number in the request's variable on every path")]
-    Unbound,
-    /// On some path the variable of a `cas` has no cas unique of its key, or that of an `incr` or `decr` has no value.
-    #[error("expected a number of the kind that the request takes on every path")]
-    WrongKind,
-    /// On some path no reply of the section comes before a bind, or the last one showed no number.
-    #[error("expected a reply that shows a number before the bind on every path")]
-    NothingToBind,
-    /// After some path of P, or after P in some merge of paths of A and B, a flag is clear that the request requires.
-    #[error("expected the flags that the request requires to be set, whichever branch goes first")]
-    FlagMayBeClear,
-    /// In the same way, a flag is set that the request forbids.
-    #[error("expected the flags that the request forbids to be clear, whichever branch goes first")]
-    FlagMayBeSet,
-    /// On some path the section sends more requests than its budget allows.
-    #[error("expected no more requests than the section's budget")]
-    TooManyRequests,
-    /// On some path its requests have more bytes than its budget allows, where a variable counts as 20 digits.
-    #[error("expected no more bytes than the section's budget")]
-    TooManyBytes,
-    /// Memory ran out, which is no fault of the code.
-    #[error("out of memory")]
-    OutOfMemory,
-}
-
-impl FaultKind for RefusalKind {
-    ghost use Rattle.mc_verify.specs.Refusals as refusals;
-    ghost use Rattle.mc_verify.specs.declared.refusal.RefusalKind.TheVariants.{OutOfMemory};
-
-    ghost kind_number = { refusals.kind_number };
-
-    ghost kind_name = { refusals.kind_name };
-
-    ghost OutOfMemory = { OutOfMemory };
-
-    fn number(self) -> u32 {
-        match self {
-            RefusalKind::BadTarget => 1,
-            RefusalKind::BadIndex => 2,
-            RefusalKind::NoHalt => 3,
-            RefusalKind::NotCleared => 4,
-            RefusalKind::Unbound => 5,
-            RefusalKind::WrongKind => 6,
-            RefusalKind::NothingToBind => 7,
-            RefusalKind::FlagMayBeClear => 8,
-            RefusalKind::FlagMayBeSet => 9,
-            RefusalKind::TooManyRequests => 10,
-            RefusalKind::TooManyBytes => 11,
-            RefusalKind::OutOfMemory => 12,
-        }
-    }
-
-    fn name(self) -> &'static str {
-        match self {
-            RefusalKind::BadTarget => "BadTarget",
-            RefusalKind::BadIndex => "BadIndex",
-            RefusalKind::NoHalt => "NoHalt",
-            RefusalKind::NotCleared => "NotCleared",
-            RefusalKind::Unbound => "Unbound",
-            RefusalKind::WrongKind => "WrongKind",
-            RefusalKind::NothingToBind => "NothingToBind",
-            RefusalKind::FlagMayBeClear => "FlagMayBeClear",
-            RefusalKind::FlagMayBeSet => "FlagMayBeSet",
-            RefusalKind::TooManyRequests => "TooManyRequests",
-            RefusalKind::TooManyBytes => "TooManyBytes",
-            RefusalKind::OutOfMemory => "OutOfMemory",
-        }
-    }
-
-    fn is_out_of_memory(self) -> bool {
-        self == RefusalKind::OutOfMemory
-    }
-}
 
 /// The fault for which code is refused, where it stands, and a run that shows it. Contracts see the vector as a list.
 #[derive(Debug, Drop)]
@@ -126,7 +34,7 @@ impl Model for Refusal {
 impl Refusal {
     /// The refusal of code for this fault, which these replies show.
     pub(crate) fn new(fault: CodeFault, shown: Vec<(Actor, Class)>) -> Self
-        ensures fault { checked.fault_of result ≡ fault }
+        ensures fault { refusals.fault_of result ≡ fault }
         ensures shown { result.shown ≡ shown.items }
     {
         Refusal {
@@ -139,7 +47,7 @@ impl Refusal {
 
     /// The refusal that memory ran out. It takes none.
     pub(crate) fn out_of_memory(alloc: Global) -> Self
-        ensures { result ≡ checked.out_of_memory }
+        ensures { result ≡ refusals.out_of_memory }
     {
         Refusal {
             kind: RefusalKind::OutOfMemory,

@@ -1,26 +1,25 @@
 //! The faults that an instruction has by itself, whether a run reaches it or not.
 ghost use Rattle.std.specs.Prelude.{◌≡◌, ◌-◌, ◌<◌, IfErr, IfNone, IfOk, IfSome, Some, length, slice_get};
 ghost use Rattle.mc_protocol.specs.declared.actor.Actor as actor;
-ghost use Rattle.mc_verify.specs.Faults as faults;
+ghost use Rattle.mc_sound.specs.Faults as faults;
 ghost use Rattle.mc_verify.specs.Lowest as lowest_faults;
-ghost use Rattle.mc_verify.specs.Refusals as refusals;
-ghost use Rattle.mc_flow.specs.Structure as structure;
+ghost use Rattle.mc_sound.specs.LeastFaults as least_faults;
+ghost use Rattle.mc_sound.specs.Structure as structure;
 
-use crate::RefusalKind;
 use crate::clearing::lowest_not_cleared;
-use crate::code_fault::CodeFault;
 use crate::lowest::check_kind;
 use crate::section::instructions;
 use crate::targets::lowest_bad_target;
 use mc_code::{Code, Instr};
 use mc_protocol::Actor;
+use mc_sound::{CodeFault, RefusalKind};
 
 /// The least fault of structure: a bad target, a bad index, a section without a halt at its end, or a key that P doesn't
 /// clear.
 pub(crate) fn structure_fault(code: &Code) -> Option<CodeFault>
-    ensures found { IfSome result (refusals.IsLeastFrom code.now 1) }
-    ensures kind { IfSome result (λ fault. refusals.kind_number fault.kind < 5) }
-    ensures none { IfNone result (refusals.HasNoneFrom code.now 1 5) }
+    ensures found { IfSome result (least_faults.IsLeastFrom code.now 1) }
+    ensures kind { IfSome result (λ fault. least_faults.kind_number fault.kind < 5) }
+    ensures none { IfNone result (least_faults.HasNoneFrom code.now 1 5) }
     ensures structured { IfNone result ((actor : actor.Actor) → faults.IsStructured code.now actor) }
 {
     check_structure(code).err()
@@ -28,8 +27,8 @@ pub(crate) fn structure_fault(code: &Code) -> Option<CodeFault>
 
 /// The error is the least fault of structure.
 fn check_structure(code: &Code) -> Result<(), CodeFault>
-    ensures least { IfErr result (refusals.IsLeastFrom code.now 1) }
-    ensures kind { IfErr result (λ fault. refusals.kind_number fault.kind < 5) }
+    ensures least { IfErr result (least_faults.IsLeastFrom code.now 1) }
+    ensures kind { IfErr result (λ fault. least_faults.kind_number fault.kind < 5) }
     ensures none { IfOk result (λ _. lowest_faults.IsFreeOf code.now 1 5) }
     ensures structured { IfOk result (λ _. (actor : actor.Actor) → faults.IsStructured code.now actor) }
 {

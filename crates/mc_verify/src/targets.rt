@@ -2,15 +2,15 @@
 ghost use Rattle.std.specs.Prelude.{◌≡◌, IfNone, IfSome, length, slice_get};
 ghost use Rattle.std.specs.List.{list_all};
 ghost use Rattle.mc_protocol.specs.Words.{all_classes};
-ghost use Rattle.mc_verify.specs.Faults as faults;
+ghost use Rattle.mc_sound.specs.Faults as faults;
 ghost use Rattle.mc_verify.specs.Lowest as lowest_faults;
-ghost use Rattle.mc_flow.specs.Structure as structure;
+ghost use Rattle.mc_sound.specs.Structure as structure;
 
-use crate::RefusalKind;
 use crate::section::instructions;
 use mc_code::{CLASS_COUNT, Code, Instr, NO_ENTRY, entry};
 use mc_protocol::{Actor, Class, legal};
 use mc_script::Template;
+use mc_sound::RefusalKind;
 
 /// The lowest place of the section whose instruction has a bad target.
 pub(crate) fn lowest_bad_target(code: &Code, actor: Actor) -> Option<u8>

@@ -3,30 +3,30 @@ ghost use Rattle.std.specs.Prelude.{◌≡◌, ◌↔◌, ℕ, true, Some, slice
 ghost use Rattle.mc_protocol.specs.Sections as sections;
 ghost use Rattle.mc_protocol.specs.declared.actor.Actor.{Actor as Section};
 ghost use Rattle.mc_code.specs.Code.{instructions_in};
-ghost use Rattle.mc_verify.specs.Checked as checked;
-ghost use Rattle.mc_verify.specs.Faults as faults;
-ghost use Rattle.mc_verify.specs.Lowest as lowest_faults;
 ghost use Rattle.mc_verify.specs.Refusals as refusals;
+ghost use Rattle.mc_sound.specs.Faults as faults;
+ghost use Rattle.mc_verify.specs.Lowest as lowest_faults;
+ghost use Rattle.mc_sound.specs.LeastFaults as least_faults;
 ghost use Rattle.mc_flow.specs.RunKinds as runs;
 ghost use Rattle.mc_verify.specs.VariableFaults as variables;
 
-use crate::code_fault::CodeFault;
+use crate::Refusal;
 use crate::lowest::check_kind;
 use crate::section::instructions;
 use crate::variable_run::variable_run;
 use crate::wrong_number::{binds_nothing, sends_wrong_number};
-use crate::{Refusal, RefusalKind};
 use mc_code::{Code, Instr};
 use mc_flow::{KindTables, all_kind_tables, declared_template};
 use mc_protocol::{Actor, OutOfMemory, Sections};
+use mc_sound::{CodeFault, RefusalKind};
 use std::alloc::Global;
 
 /// The least fault of variables: a request's variable that may have no number, or one of another kind than the request
 /// takes, or a bind where no number may have been shown; with a run that shows it. The error is that memory ran out.
 pub(crate) fn variable_fault(alloc: Global, code: &Code) -> Result<Option<Refusal>, OutOfMemory>
     requires { (actor : Section) → faults.IsStructured code.now actor }
-    ensures found { IfOk result (λ found. IfSome found (checked.IsRefusalFrom code.now 5)) }
-    ensures none { IfOk result (λ found. IfNone found (refusals.HasNoneFrom code.now 5 8)) }
+    ensures found { IfOk result (λ found. IfSome found (refusals.IsRefusalFrom code.now 5)) }
+    ensures none { IfOk result (λ found. IfNone found (least_faults.HasNoneFrom code.now 5 8)) }
 {
     let tables = all_kind_tables(alloc, code)?;
     match check_variables(code, &tables) {
@@ -42,7 +42,7 @@ pub(crate) fn variable_fault(alloc: Global, code: &Code) -> Result<Option<Refusa
 fn check_variables(code: &Code, tables: &Sections<KindTables>) -> Result<(), CodeFault>
     requires structured { (actor : Section) → faults.IsStructured code.now actor }
     requires tables { (actor : Section) → runs.AreKindTables code.now actor (sections.section_of tables.now actor) }
-    ensures least { IfErr result (refusals.IsLeastFrom code.now 5) }
+    ensures least { IfErr result (least_faults.IsLeastFrom code.now 5) }
     ensures kind { IfErr result (λ fault. variables.IsOfVariables fault.kind) }
     ensures none { IfOk result (λ _. lowest_faults.IsFreeOf code.now 5 8) }
 {

@@ -1,15 +1,16 @@
 //! All that is asked of code before it may run.
 ghost use Rattle.std.specs.Prelude.{◌≡◌, IfErr, IfOk};
-ghost use Rattle.mc_verify.specs.Checked as spec;
+ghost use Rattle.mc_sound.specs.Checked.{IsChecked};
+ghost use Rattle.mc_verify.specs.Refusals as spec;
 
-use crate::checked::Checked;
+use crate::Refusal;
 use crate::cost::costs;
 use crate::flags::flag_fault;
 use crate::structure::structure_fault;
 use crate::variables::variable_fault;
-use crate::{Cost, Refusal};
 use mc_code::Code;
 use mc_protocol::{OutOfMemory, Sections};
+use mc_sound::{Checked, Cost};
 use std::alloc::Global;
 
 /// Finds out whether code is sound: no section can come to a number that is missing or of another kind, no request can
@@ -25,7 +26,7 @@ pub fn verify(alloc: Global, code: Code) -> Result<Checked, (Refusal, Code)>
     ensures returned { IfErr result (λ refused. refused.1 ≡ code) }
 {
     match examine(alloc, &code) {
-        Ok(Ok(maxima)) => Ok(Checked { code, maxima }),
+        Ok(Ok(maxima)) => Ok(Checked::new(code, maxima)),
         Ok(Err(refusal)) => Err((refusal, code)),
         Err(_) => Err((Refusal::out_of_memory(alloc), code)),
     }
@@ -33,7 +34,7 @@ pub fn verify(alloc: Global, code: Code) -> Result<Checked, (Refusal, Code)>
 
 /// The most that the sections of sound code may cost, or the refusal of other code.
 fn examine(alloc: Global, code: &Code) -> Result<Result<Sections<Cost>, Refusal>, OutOfMemory>
-    ensures accepted { IfOk result (λ found. IfOk found (λ maxima. spec.IsChecked (record { code = code.now; maxima = maxima }))) }
+    ensures accepted { IfOk result (λ found. IfOk found (λ maxima. IsChecked (record { code = code.now; maxima = maxima }))) }
     ensures refused { IfOk result (λ found. IfErr found (spec.IsRightRefusal code.now)) }
 {
     match structure_fault(code) {

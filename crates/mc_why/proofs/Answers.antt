@@ -1,19 +1,13 @@
 -- What a cache holds after moves, and what it answers then.
 use Rattle.std.proofs.Common.{◌≡◌, ℕ, ◌+◌, ◌<◌, Option, Some, List, [], ◌∷◌, ◌++◌, take, drop, length, get_or}
 use Rattle.std.proofs.Common.{slice_get, take-append-drop, sym, ap, subst, ◌∙◌}
-use Rattle.std.proofs.lemmas.List.{drop_more, take_more}
-use Rattle.std.proofs.lemmas.Option.{get_or_from_slice_get}
-use Rattle.mc_protocol.specs.declared.actor.Actor.{Actor}
+use Rattle.std.proofs.{lemmas.List.drop_more, lemmas.List.take_more, lemmas.Option.get_or_from_slice_get}
+use Rattle.mc_protocol.specs.{declared.actor.Actor.Actor, declared.reply.Reply.Reply}
 use Rattle.mc_protocol.specs.declared.actor.Actor.TheVariants as actor
-use Rattle.mc_protocol.specs.declared.reply.Reply.{Reply}
-use Rattle.mc_model.specs.declared.sent.Sent.{Sent}
-use Rattle.mc_model.specs.Contents.{Contents}
-use Rattle.mc_model.specs.Sections.{Sections, section_of}
-use Rattle.mc_history.specs.declared.explanation.Move.{Move}
-use Rattle.mc_history.specs.Claim.{Claim}
-use Rattle.mc_why.specs.declared.answer.Answer.{Answer}
+use Rattle.mc_model.specs.{declared.sent.Sent.Sent, Contents.Contents, Sections.Sections, Sections.section_of}
+use Rattle.mc_history.specs.{declared.explanation.Move.Move, Claim.Claim}
 use Rattle.mc_why.specs.Answers.{ActsUnanswered, IsAnswerIn, IsAnswered, moved, moved_along, next_after}
-use Rattle.mc_why.specs.Answering.{IsFirstUnanswered, IsNthMove}
+use Rattle.mc_why.specs.{declared.answer.Answer.Answer, Answering.IsFirstUnanswered, Answering.IsNthMove}
 
 -- one more move
 pub moved_on : (s : Sections) (moves : List Move) (i : ℕ) (d : Move) (cache next : Contents) (whole : Contents) → i < length moves

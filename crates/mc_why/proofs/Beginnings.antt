@@ -1,10 +1,8 @@
 -- What a section sent and received by the first of some notes, and by all of them.
 use Rattle.std.proofs.Common.{◌≡◌, ◌⊎◌, inl, inr, ℕ, zero, suc, ◌+◌, ◌≤◌, ◌<◌, true, not, Option, None, is_some}
 use Rattle.std.proofs.Common.{List, [], ◌∷◌, ◌++◌, drop, length, refl, ap, add-one, arith}
-use Rattle.mc_protocol.specs.declared.request.Request.{Request}
-use Rattle.mc_protocol.specs.declared.reply.Reply.{Reply}
-use Rattle.mc_model.specs.declared.sent.Sent.{Sent}
-use Rattle.mc_model.specs.Notes.{with_replies}
+use Rattle.mc_protocol.specs.{declared.request.Request.Request, declared.reply.Reply.Reply}
+use Rattle.mc_model.specs.{declared.sent.Sent.Sent, Notes.with_replies}
 use Rattle.mc_claims.specs.Walk.{may_end}
 
 -- the first of these requests, each with its reply or with none

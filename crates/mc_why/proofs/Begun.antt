@@ -1,32 +1,20 @@
 -- What is explained stays so where one more request begins.
 use Rattle.std.proofs.Common.{◌≡◌, inl, inr, ℕ, zero, suc, ◌+◌, ◌≤◌, ◌<◌, Bool, true, false, cond, not, ◌||◌, Option, Some, None, if◌then◌else◌}
 use Rattle.std.proofs.Common.{List, [], ◌∷◌, ◌++◌, take, length, get_or, slice_get, refl, sym, ap, subst, ◌∙◌, arith}
-use Rattle.std.proofs.lemmas.List.{take_more}
-use Rattle.std.proofs.lemmas.List.Sums.{sum_by-append, sum_by-cons}
-use Rattle.std.proofs.lemmas.Option.{get_or_from_slice_get}
-use Rattle.mc_protocol.specs.declared.actor.Actor.{Actor}
+use Rattle.std.proofs.{lemmas.List.take_more, lemmas.List.Sums.sum_by-append, lemmas.List.Sums.sum_by-cons, lemmas.Option.get_or_from_slice_get}
+use Rattle.mc_protocol.specs.{declared.actor.Actor.Actor, declared.request.Request.Request, declared.reply.Reply.Reply}
 use Rattle.mc_protocol.specs.declared.actor.Actor.TheVariants as actor
-use Rattle.mc_protocol.specs.declared.request.Request.{Request}
-use Rattle.mc_protocol.specs.declared.reply.Reply.{Reply}
-use Rattle.mc_model.specs.declared.sent.Sent.{Sent}
-use Rattle.mc_model.specs.declared.note.Note.TheVariants as note
-use Rattle.mc_model.specs.Sections.{Sections, section_of, with_sent}
-use Rattle.mc_model.specs.History.{are_answered, comes_late}
 use Rattle.mc_model.specs.Notes.{History, Keeps, Noted, answered_before, answered_before_each, begins, is_record, is_same_section, is_waiting}
 use Rattle.mc_model.specs.Notes.{replies_in, sections_in, with_notes}
-use Rattle.mc_model.proofs.Answering.{answered_push}
-use Rattle.mc_model.proofs.Noting.{answered_before-push, sections-begin}
-use Rattle.mc_model.proofs.NoteFaults.{balanced, record_front}
-use Rattle.mc_history.specs.Claim.{Claim}
-use Rattle.mc_history.specs.Turns.{Turn}
-use Rattle.mc_claims.specs.Explains.{Explains}
-use Rattle.mc_claims.specs.Orders.{HasActed, IsOrderOf, KeepsRecordedOrder, other_branch, turn_count}
+use Rattle.mc_model.specs.{declared.sent.Sent.Sent, Sections.Sections, Sections.section_of, Sections.with_sent, History.are_answered, History.comes_late}
+use Rattle.mc_model.specs.declared.note.Note.TheVariants as note
+use Rattle.mc_model.proofs.{Answering.answered_push, Noting.answered_before-push, Noting.sections-begin, NoteFaults.balanced, NoteFaults.record_front}
+use Rattle.mc_history.specs.{Claim.Claim, Turns.Turn}
+use Rattle.mc_claims.specs.{Explains.Explains, Orders.HasActed, Orders.IsOrderOf, Orders.KeepsRecordedOrder, Orders.other_branch, Orders.turn_count}
 use Rattle.mc_claims.proofs.Counts.{each_answered, moves_counted}
 use Rattle.mc_explain.specs.Hopeless.{IsUnexplained}
-use Rattle.mc_why.specs.Cuts.{count_of, cut_of}
-use Rattle.mc_why.specs.CutLaws.{RepliesStandAtPlaces}
-use Rattle.mc_why.proofs.Cuts.{record_cut}
-use Rattle.mc_why.proofs.OneLess.{count_each, in_order, length-sent}
+use Rattle.mc_why.specs.{Cuts.count_of, Cuts.cut_of, CutLaws.RepliesStandAtPlaces}
+use Rattle.mc_why.proofs.{Cuts.record_cut, OneLess.count_each, OneLess.in_order, OneLess.length-sent}
 
 -- ---- the order stays allowed
 

@@ -1,17 +1,12 @@
 -- The cuts of a history.
 use Rattle.std.proofs.Common.{◌≡◌, ◌≢◌, inl, inr, ℕ, ◌-◌, ◌≤◌, true, Option, Some, None, List, [], take, drop, length}
 use Rattle.std.proofs.Common.{take-append-drop, refl, sym, subst, ap, ◌∙◌, arith}
-use Rattle.std.proofs.lemmas.Bool.{cases_lt}
-use Rattle.std.proofs.lemmas.List.{take_all, take-take}
+use Rattle.std.proofs.{lemmas.Bool.cases_lt, lemmas.List.take_all, lemmas.List.take-take}
 use Rattle.mc_protocol.specs.declared.actor.Actor.TheVariants as actor
-use Rattle.mc_model.specs.declared.sent.Sent.{Sent}
-use Rattle.mc_model.specs.declared.rules.HistoryKind.{HistoryKind}
-use Rattle.mc_model.specs.declared.rules.HistoryKind.TheVariants as kind
-use Rattle.mc_model.specs.Sections.{Sections, before}
-use Rattle.mc_model.specs.History.{is_history}
 use Rattle.mc_model.specs.Notes.{History, IsHistory, Keeps, Noted, is_record, sections_in}
-use Rattle.mc_model.proofs.NoteFaults.{record_parts, record_shorter}
-use Rattle.mc_model.proofs.Prefixes.{history_before_place}
+use Rattle.mc_model.specs.{declared.sent.Sent.Sent, declared.rules.HistoryKind.HistoryKind, Sections.Sections, Sections.before, History.is_history}
+use Rattle.mc_model.specs.declared.rules.HistoryKind.TheVariants as kind
+use Rattle.mc_model.proofs.{NoteFaults.record_parts, NoteFaults.record_shorter, Prefixes.history_before_place}
 use Rattle.mc_why.specs.Cuts.{count_of, cut, cut_of, first_requests, place_count}
 
 -- ---- a cut of a history is a history

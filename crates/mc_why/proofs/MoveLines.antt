@@ -1,11 +1,10 @@
 -- The lines of an explanation, and of forms, one after the other.
 use Rattle.std.proofs.Common.{◌≡◌, ℕ, ◌+◌, ◌<◌, List, [], ◌∷◌, ◌++◌, take, drop, length, get_or, sym, ap, ◌∙◌, append_assoc}
-use Rattle.std.specs.List.{flat_map}
 use Rattle.std.proofs.lemmas.List.{drop_more, flat_map_more, take_more}
+use Rattle.std.specs.List.{flat_map}
 use Rattle.mc_model.specs.Sections.{Sections}
 use Rattle.mc_history.specs.declared.explanation.Move.{Move}
-use Rattle.mc_why.specs.WhyText.{form_text, move_text, order_text, start_text}
-use Rattle.mc_why.specs.declared.form.Form.{Form}
+use Rattle.mc_why.specs.{WhyText.form_text, WhyText.move_text, WhyText.order_text, WhyText.start_text, declared.form.Form.Form}
 
 -- one more item at the start
 pub starts_on : (front back out : List ℕ) (xs : List (List ℕ × ℕ)) (i : ℕ) (x d : List ℕ × ℕ) → i < length xs → x ≡ get_or xs i d

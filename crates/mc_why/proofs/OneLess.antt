@@ -2,24 +2,18 @@
 use Rattle.std.proofs.Common.{◌≡◌, inl, inr, ℕ, zero, suc, ◌+◌, ◌-◌, ◌^◌, ◌≤◌, ◌<◌, Bool, true, false, not, ◌&&◌, ◌||◌, Option, Some, None, if◌then◌else◌}
 use Rattle.std.proofs.Common.{List, [], ◌∷◌, ◌++◌, drop, take, length, get_or, map, refl, sym, ap, ap₂, subst, ◌∙◌, arith}
 use Rattle.std.proofs.Common.{append-nil, append_assoc, take-append-drop, length-append}
-use Rattle.std.proofs.lemmas.Bool.{and_parts}
-use Rattle.std.proofs.lemmas.List.{get_or-append_right, length-map}
-use Rattle.std.proofs.lemmas.List.Elements.{All-take}
+use Rattle.std.proofs.{lemmas.Bool.and_parts, lemmas.List.get_or-append_right, lemmas.List.length-map, lemmas.List.Elements.All-take}
 use Rattle.mc_protocol.specs.declared.actor.Actor.{Actor}
 use Rattle.mc_protocol.specs.declared.actor.Actor.TheVariants as actor
-use Rattle.mc_model.specs.declared.sent.Sent.{Sent}
-use Rattle.mc_model.specs.declared.note.Note.TheVariants as note
-use Rattle.mc_model.specs.Sections.{Sections}
-use Rattle.mc_model.specs.History.{comes_late, is_none_sent}
 use Rattle.mc_model.specs.Notes.{History, IsHistory, Keeps, Noted, answered_before_each, are_in_order, begins, begun_by}
 use Rattle.mc_model.specs.Notes.{is_out_of_order, is_record, is_same_section, is_waiting, notes_before_each, replied_by, replies_in, requests_in}
 use Rattle.mc_model.specs.Notes.{sections_in, sent_in, with_notes, with_replies}
+use Rattle.mc_model.specs.{declared.sent.Sent.Sent, Sections.Sections, History.comes_late, History.is_none_sent}
+use Rattle.mc_model.specs.declared.note.Note.TheVariants as note
 use Rattle.mc_model.proofs.Noting.{IsBalanced, answered_before-push, replies-push, requests-push}
 use Rattle.mc_model.proofs.NoteFaults.{balanced, order-push, record_front, record_parts, record_shorter}
-use Rattle.mc_history.specs.declared.explanation.Move.{Move}
-use Rattle.mc_history.specs.Claim.{Claim, NumbersFit}
-use Rattle.mc_claims.specs.Explains.{Explains, start_contents}
-use Rattle.mc_claims.specs.Walk.{may_end}
+use Rattle.mc_history.specs.{declared.explanation.Move.Move, Claim.Claim, Claim.NumbersFit}
+use Rattle.mc_claims.specs.{Explains.Explains, Explains.start_contents, Walk.may_end}
 use Rattle.mc_claims.proofs.Explaining.{explains_from_walk, walk_from_explains}
 use Rattle.mc_why.specs.Cuts.{cut, cut_of}
 use Rattle.mc_why.proofs.Beginnings.{Begins, answered_may_end, begins_with, drop_none, drop_some, length-with_replies}

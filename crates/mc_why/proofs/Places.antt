@@ -1,16 +1,13 @@
 -- The place from which on nothing explains a history.
 use Rattle.std.proofs.Common.{◌≡◌, inl, inr, ℕ, ◌+◌, ◌-◌, ◌≤◌, ◌<◌, true, Option, Some, None, is_some, List, [], take, refl, sym, ap, subst, ◌∙◌, arith}
 use Rattle.std.proofs.lemmas.Bool.{cases_lt}
-use Rattle.mc_model.specs.Notes.{History, IsHistory, Noted, without_notes}
-use Rattle.mc_model.specs.Sections.{Sections, no_sections}
+use Rattle.mc_model.specs.{Notes.History, Notes.IsHistory, Notes.Noted, Notes.without_notes, Sections.Sections, Sections.no_sections}
 use Rattle.mc_history.specs.Claim.{Claim, NumbersFit}
 use Rattle.mc_claims.specs.Explains.{Explains}
 use Rattle.mc_claims.proofs.Explaining.{explains_from_walk}
 use Rattle.mc_explain.specs.Hopeless.{IsUnexplained}
-use Rattle.mc_why.specs.Cuts.{cut, cut_of, place_count}
-use Rattle.mc_why.specs.Causes.{IsUnexplainedFrom}
-use Rattle.mc_why.proofs.Cuts.{cut_again, history_cut, in_prefix, whole}
-use Rattle.mc_why.proofs.OneLess.{cuts_explained}
+use Rattle.mc_why.specs.{Cuts.cut, Cuts.cut_of, Cuts.place_count, Causes.IsUnexplainedFrom}
+use Rattle.mc_why.proofs.{Cuts.cut_again, Cuts.history_cut, Cuts.in_prefix, Cuts.whole, OneLess.cuts_explained}
 
 abbrev pub no_moves : Claim
 no_moves = record { start = []; order = [] }

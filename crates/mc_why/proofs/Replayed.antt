@@ -1,24 +1,16 @@
 -- The moves of an explanation let the requests of its order act.
 use Rattle.std.proofs.Common.{◌≡◌, ◌⊎◌, inl, inr, ℕ, zero, suc, ◌+◌, nat_le, Bool, true, false, cond, Some, None, if◌then◌else◌}
 use Rattle.std.proofs.Common.{List, [], ◌∷◌, ◌++◌, drop, take, map, slice_get, append-nil, append_assoc, refl, sym, ap, subst, ◌∙◌, arith}
-use Rattle.std.specs.Option.{option_map}
 use Rattle.std.proofs.lemmas.List.Sums.{sum_by-append, sum_by-cons}
+use Rattle.std.specs.Option.{option_map}
 use Rattle.mc_protocol.specs.declared.actor.Actor.{Actor}
 use Rattle.mc_protocol.specs.declared.actor.Actor.TheVariants as actor
-use Rattle.mc_model.specs.declared.sent.Sent.{Sent}
-use Rattle.mc_model.specs.Contents.{Contents}
-use Rattle.mc_model.specs.Notes.{History, answered_before, is_same_section}
-use Rattle.mc_model.specs.Sections.{Sections}
-use Rattle.mc_history.specs.declared.explanation.Move.{Move}
-use Rattle.mc_history.specs.Claim.{Claim}
-use Rattle.mc_history.specs.Turns.{Turn}
-use Rattle.mc_claims.specs.Explains.{Explains, start_contents, steps_of}
-use Rattle.mc_claims.specs.ExplainsLaws.{move_count}
-use Rattle.mc_claims.specs.Replay.{Step, after}
+use Rattle.mc_model.specs.{declared.sent.Sent.Sent, Contents.Contents, Notes.History, Notes.answered_before, Notes.is_same_section, Sections.Sections}
+use Rattle.mc_history.specs.{declared.explanation.Move.Move, Claim.Claim, Turns.Turn}
 use Rattle.mc_claims.specs.Walk.{Left, all_left, first_of, left_after, may_end, next_at}
+use Rattle.mc_claims.specs.{Explains.Explains, Explains.start_contents, Explains.steps_of, ExplainsLaws.move_count, Replay.Step, Replay.after}
 use Rattle.mc_claims.proofs.Recorded.{IsAllowedFrom, allowed_from_start, begins_allowed}
-use Rattle.mc_why.specs.Answers.{moved, moved_along, next_after}
-use Rattle.mc_why.specs.AnswerLaws.{MovesAreReplayed, TurnsComeNext, left_by}
+use Rattle.mc_why.specs.{Answers.moved, Answers.moved_along, Answers.next_after, AnswerLaws.MovesAreReplayed, AnswerLaws.TurnsComeNext, AnswerLaws.left_by}
 use Rattle.mc_why.proofs.Beginnings.{drop_tail}
 
 -- ---- what is left after some moves

@@ -1,19 +1,14 @@
 -- Moves that explain notes: the first of them explain the notes without the last one.
 use Rattle.std.proofs.Common.{◌≡◌, ◌⊎◌, inl, inr, ℕ, zero, suc, ◌+◌, ◌≤◌, nat_le, Bool, true, false, Option, ◌&&◌, Some, None}
 use Rattle.std.proofs.Common.{List, [], ◌∷◌, drop, take, length, refl, sym, ap, subst, ◌∙◌, arith, if◌then◌else◌}
-use Rattle.std.specs.Option.{option_map}
 use Rattle.std.proofs.lemmas.Bool.{and_parts, le-leb, leb-true}
-use Rattle.mc_protocol.specs.declared.actor.Actor.{Actor}
+use Rattle.std.specs.Option.{option_map}
+use Rattle.mc_protocol.specs.{declared.actor.Actor.Actor, declared.reply.Reply.Reply}
 use Rattle.mc_protocol.specs.declared.actor.Actor.TheVariants as actor
-use Rattle.mc_protocol.specs.declared.reply.Reply.{Reply}
-use Rattle.mc_model.specs.declared.sent.Sent.{Sent}
-use Rattle.mc_model.specs.Contents.{Contents}
-use Rattle.mc_model.specs.Notes.{Noted, answered_before}
-use Rattle.mc_model.specs.Sections.{Sections}
+use Rattle.mc_model.specs.{declared.sent.Sent.Sent, Contents.Contents, Notes.Noted, Notes.answered_before, Sections.Sections}
 use Rattle.mc_history.specs.declared.explanation.Move.{Move}
-use Rattle.mc_claims.specs.Explains.{IsReceived}
-use Rattle.mc_claims.specs.Replay.{Step, reply_to}
 use Rattle.mc_claims.specs.Walk.{Left, Lets, Passes, Trial, Walks, first_of, left_after, may_all_end, may_end, next_at, step_by, trial_after}
+use Rattle.mc_claims.specs.{Explains.IsReceived, Replay.Step, Replay.reply_to}
 use Rattle.mc_why.proofs.Beginnings.{Begins, begins_drop, begins_may_end, drop_tail}
 
 -- ---- the next request of a section

@@ -1,11 +1,8 @@
 -- What follows for the moves of an explanation: the cache that answers is that of its replay.
 use Rattle.std.specs.Prelude.{◌≡◌, ℕ, Some, List, [], ◌∷◌, take, slice_get}
-use Rattle.mc_model.specs.Contents.{Contents}
-use Rattle.mc_model.specs.Notes.{History}
-use Rattle.mc_history.specs.Claim.{Claim}
-use Rattle.mc_history.specs.Turns.{Turn}
-use Rattle.mc_claims.specs.Explains.{Explains, start_contents, steps_of}
-use Rattle.mc_claims.specs.Replay.{Step, after}
+use Rattle.mc_model.specs.{Contents.Contents, Notes.History}
+use Rattle.mc_history.specs.{Claim.Claim, Turns.Turn}
+use Rattle.mc_claims.specs.{Explains.Explains, Explains.start_contents, Explains.steps_of, Replay.Step, Replay.after}
 use Rattle.mc_why.specs.Answers.{contents_after, next_after}
 
 -- what a cache holds after the steps, one after another

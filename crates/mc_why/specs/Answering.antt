@@ -1,14 +1,11 @@
 -- What private contracts say of answers and of moves.
 use Rattle.std.specs.Prelude.{◌≡◌, ◌<◌, ℕ, true, Option, Some, None, is_some, List, length, slice_get, take}
 use Rattle.mc_protocol.specs.declared.actor.Actor.{Actor}
-use Rattle.mc_model.specs.declared.sent.Sent.{Sent}
-use Rattle.mc_model.specs.Sections.{Sections}
-use Rattle.mc_history.specs.declared.explanation.Move.{Move}
-use Rattle.mc_history.specs.Claim.{Claim}
+use Rattle.mc_model.specs.{declared.sent.Sent.Sent, Sections.Sections}
+use Rattle.mc_history.specs.{declared.explanation.Move.Move, Claim.Claim}
 use Rattle.mc_claims.specs.ExplainsLaws.{move_count}
-use Rattle.mc_why.specs.declared.answer.Answer.{Answer}
+use Rattle.mc_why.specs.{declared.answer.Answer.Answer, Answers.ActsUnanswered, Answers.AreAnswered, Answers.ComesNext, Answers.next_after}
 use Rattle.mc_why.specs.declared.answer.Answer.TheVariants as answer
-use Rattle.mc_why.specs.Answers.{ActsUnanswered, AreAnswered, ComesNext, next_after}
 
 -- an answer to a section's next request, where it has one
 abbrev pub IsAnswerToNext : Sections → Claim → Actor → Option Answer → Type 0

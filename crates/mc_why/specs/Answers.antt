@@ -1,16 +1,10 @@
 -- What a cache answers to the requests that come next after an explanation, and to those in it that were not answered.
 use Rattle.std.specs.Prelude.{◌≡◌, ◌<◌, ℕ, true, Option, Some, None, is_some, List, [], ◌∷◌, ◌++◌, slice_get}
-use Rattle.mc_protocol.specs.declared.actor.Actor.{Actor}
-use Rattle.mc_protocol.specs.declared.reply.Reply.{Reply}
-use Rattle.mc_model.specs.declared.act.Choice.{Choice}
-use Rattle.mc_model.specs.declared.sent.Sent.{Sent}
-use Rattle.mc_model.specs.Act.{act}
-use Rattle.mc_model.specs.Contents.{Contents}
+use Rattle.mc_protocol.specs.{declared.actor.Actor.Actor, declared.reply.Reply.Reply}
 use Rattle.mc_model.specs.Sections.{Sections, section_of}
-use Rattle.mc_history.specs.declared.explanation.Move.{Move}
-use Rattle.mc_history.specs.Claim.{Claim}
-use Rattle.mc_claims.specs.Explains.{start_contents}
-use Rattle.mc_claims.specs.ExplainsLaws.{move_count}
+use Rattle.mc_model.specs.{declared.act.Choice.Choice, declared.sent.Sent.Sent, Act.act, Contents.Contents}
+use Rattle.mc_history.specs.{declared.explanation.Move.Move, Claim.Claim}
+use Rattle.mc_claims.specs.{Explains.start_contents, ExplainsLaws.move_count}
 use Rattle.mc_explain.specs.Choices.{plain}
 use Rattle.mc_why.specs.declared.answer.Answer.{Answer}
 use Rattle.mc_why.specs.declared.answer.Answer.TheVariants as answer

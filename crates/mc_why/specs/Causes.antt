@@ -1,17 +1,12 @@
 -- From which place on nothing explains a history.
 use Rattle.std.specs.Prelude.{◌<◌, ◌+◌, ℕ, Option}
-use Rattle.mc_protocol.specs.declared.actor.Actor.{Actor}
-use Rattle.mc_protocol.specs.declared.sections.Sections.{Sections}
-use Rattle.mc_model.specs.Sections.{section_of}
-use Rattle.mc_model.specs.Notes.{History}
+use Rattle.mc_protocol.specs.{declared.actor.Actor.Actor, declared.sections.Sections.Sections}
+use Rattle.mc_model.specs.{Sections.section_of, Notes.History}
 use Rattle.mc_history.specs.Claim.{Claim}
 use Rattle.mc_claims.specs.Explains.{Explains}
 use Rattle.mc_explain.specs.Hopeless.{IsUnexplained}
-use Rattle.mc_why.specs.Cuts.{cut, place_count}
-use Rattle.mc_why.specs.Answers.{IsAnswerIn}
-use Rattle.mc_why.specs.Forms.{AreFormsAt}
-use Rattle.mc_why.specs.declared.answer.Answer.{Answer}
 use Rattle.mc_why.specs.declared.cause.Finding.{Finding}
+use Rattle.mc_why.specs.{Cuts.cut, Cuts.place_count, Answers.IsAnswerIn, Forms.AreFormsAt, declared.answer.Answer.Answer}
 use Rattle.mc_why.specs.declared.cause.Finding.TheVariants as finding
 
 -- from this place on nothing explains the history: the claim explains what stands before it, and nothing explains any longer

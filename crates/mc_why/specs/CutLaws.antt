@@ -1,13 +1,11 @@
 -- What follows for the cuts of a history.
 use Rattle.std.specs.Prelude.{◌≡◌, ◌≤◌, ℕ, Some, List, slice_get}
-use Rattle.mc_protocol.specs.declared.actor.Actor.{Actor}
-use Rattle.mc_protocol.specs.declared.reply.Reply.{Reply}
+use Rattle.mc_protocol.specs.{declared.actor.Actor.Actor, declared.reply.Reply.Reply}
 use Rattle.mc_model.specs.declared.note.Note.TheVariants as note
 use Rattle.mc_model.specs.Notes.{History, IsHistory, Noted}
 use Rattle.mc_history.specs.Claim.{Claim}
 use Rattle.mc_claims.specs.Explains.{Explains}
-use Rattle.mc_why.specs.Cuts.{cut, place_count}
-use Rattle.mc_why.specs.Causes.{IsUnexplainedFrom}
+use Rattle.mc_why.specs.{Cuts.cut, Cuts.place_count, Causes.IsUnexplainedFrom}
 
 -- a cut of a history is a history
 abbrev pub CutsAreHistories : Type 0

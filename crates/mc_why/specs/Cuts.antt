@@ -1,7 +1,6 @@
 -- A history cut at a place: what stands before it.
 use Rattle.std.specs.Prelude.{ℕ, ◌+◌, ◌-◌, Option, Some, None, List, length, take}
-use Rattle.mc_model.specs.Notes.{History, Noted, with_notes, without_notes}
-use Rattle.mc_model.specs.Sections.{Sections}
+use Rattle.mc_model.specs.{Notes.History, Notes.Noted, Notes.with_notes, Notes.without_notes, Sections.Sections}
 
 -- how many requests the sections have
 abbrev pub request_count : Sections → ℕ

@@ -1,19 +1,14 @@
 -- The replies that would be explained at a place.
 use Rattle.std.specs.Prelude.{◌≡◌, ◌≤◌, ℕ, Bool, true, not, Option, Some, None, List, [], ◌∷◌, ◌++◌, length, take, slice_get}
 use Rattle.std.specs.{List.All, Option.option_map_or}
-use Rattle.mc_protocol.specs.declared.actor.Actor.{Actor}
-use Rattle.mc_protocol.specs.declared.reply.Reply.{Reply}
+use Rattle.mc_protocol.specs.{declared.actor.Actor.Actor, declared.reply.Reply.Reply}
 use Rattle.mc_protocol.specs.declared.reply.Reply.TheVariants as replies
 use Rattle.mc_model.specs.declared.note.Note.TheVariants as note
-use Rattle.mc_model.specs.declared.sent.Sent.{Sent}
-use Rattle.mc_model.specs.History.{every, shows_number}
-use Rattle.mc_model.specs.Notes.{History, IsHistory, Noted, with_notes, without_notes}
-use Rattle.mc_model.specs.Sections.{Sections, section_of, with_sent}
+use Rattle.mc_model.specs.{declared.sent.Sent.Sent, History.every, History.shows_number, Notes.History, Notes.IsHistory, Notes.Noted}
+use Rattle.mc_model.specs.{Notes.with_notes, Notes.without_notes, Sections.Sections, Sections.section_of, Sections.with_sent}
 use Rattle.mc_history.specs.Claim.{Claim}
 use Rattle.mc_claims.specs.Explains.{Explains}
-use Rattle.mc_why.specs.Cuts.{cut, first_requests}
-use Rattle.mc_why.specs.WhyText.{request_place}
-use Rattle.mc_why.specs.declared.form.Form.{Form}
+use Rattle.mc_why.specs.{Cuts.cut, Cuts.first_requests, WhyText.request_place, declared.form.Form.Form}
 use Rattle.mc_why.specs.declared.form.Form.TheVariants as form
 
 -- the note, with this reply

@@ -1,10 +1,8 @@
 -- What the private searches for a place find.
 use Rattle.std.specs.Prelude.{◌+◌, ◌^◌, ◌<◌}
 use Rattle.mc_model.specs.Notes.{History}
-use Rattle.mc_why.specs.declared.locating.Located.{Located}
+use Rattle.mc_why.specs.{declared.locating.Located.Located, Cuts.place_count, Causes.IsUnexplainedFrom}
 use Rattle.mc_why.specs.declared.locating.Located.TheVariants as located
-use Rattle.mc_why.specs.Cuts.{place_count}
-use Rattle.mc_why.specs.Causes.{IsUnexplainedFrom}
 
 abbrev pub IsPlaceOf : History → Located → Type 0
 IsPlaceOf h (located.At place claim) = IsUnexplainedFrom h place claim × (place + 1 < 2 ^ 64)

@@ -1,13 +1,9 @@
 -- What private contracts say of the replies that are tried at a place.
 use Rattle.std.specs.Prelude.{◌≡◌, ℕ, Bool, true, not, Option, Some, None, List}
 use Rattle.std.specs.List.{list_all}
-use Rattle.mc_model.specs.declared.sent.Sent.{Sent}
+use Rattle.mc_model.specs.{declared.sent.Sent.Sent, Notes.History}
 pub use Rattle.mc_model.specs.History.{shows_number}
-use Rattle.mc_model.specs.Notes.{History}
-use Rattle.mc_why.specs.Cuts.{cut}
-use Rattle.mc_why.specs.Forms.{IsForm, shows_nowhere}
-use Rattle.mc_why.specs.declared.form.Form.{Form}
-use Rattle.mc_why.specs.declared.forms.Tried.{Tried}
+use Rattle.mc_why.specs.{Cuts.cut, Forms.IsForm, Forms.shows_nowhere, declared.form.Form.Form, declared.forms.Tried.Tried}
 use Rattle.mc_why.specs.declared.forms.Tried.TheVariants as tried
 
 -- no reply of the section shows the number

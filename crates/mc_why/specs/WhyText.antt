@@ -2,29 +2,19 @@
 use Rattle.std.specs.Prelude.{ℕ, ◌-◌, nat_lt, Bool, ◌||◌, if◌then◌else◌, Option, Some, None}
 use Rattle.std.specs.Prelude.{List, [], ◌∷◌, ◌++◌, length, codes, decimal, slice_get}
 use Rattle.std.specs.{List.flat_map, Option.option_map_or, Str.bytes_eq}
-use Rattle.mc_protocol.specs.Lines.{Words}
-use Rattle.mc_protocol.specs.Words.{actor_word, verb_word}
-use Rattle.mc_protocol.specs.declared.actor.Actor.{Actor}
+use Rattle.mc_protocol.specs.{Lines.Words, Words.actor_word, Words.verb_word, declared.actor.Actor.Actor, declared.reply.Reply.Reply}
+use Rattle.mc_protocol.specs.{declared.request.Request.Request, declared.request.Verb.Verb, declared.sections.Sections.Sections}
 use Rattle.mc_protocol.specs.declared.actor.Actor.TheVariants as actor
-use Rattle.mc_protocol.specs.declared.reply.Reply.{Reply}
 use Rattle.mc_protocol.specs.declared.reply.Reply.TheVariants as replies
-use Rattle.mc_protocol.specs.declared.request.{Request.Request, Verb.Verb}
-use Rattle.mc_protocol.specs.declared.sections.Sections.{Sections}
-use Rattle.mc_model.specs.declared.sent.Sent.{Sent}
-use Rattle.mc_model.specs.Notes.{History, Noted}
-use Rattle.mc_model.specs.Sections.{section_of}
-use Rattle.mc_model.specs.Sections as sent
 use Rattle.mc_model.specs.Words.{join_words, reply_words, request_words}
-use Rattle.mc_history.specs.declared.explanation.Move.{Move}
-use Rattle.mc_history.specs.Claim.{Claim}
+use Rattle.mc_model.specs.{declared.sent.Sent.Sent, Notes.History, Notes.Noted, Sections.section_of}
+use Rattle.mc_model.specs.Sections as sent
 use Rattle.mc_history.specs.PrintedHistory.{answer_words, line_text, move_words, note_words, start_words, turn_words}
-use Rattle.mc_why.specs.Answers.{next_after}
-use Rattle.mc_why.specs.Cuts.{cut}
-use Rattle.mc_why.specs.declared.answer.Answer.{Answer}
-use Rattle.mc_why.specs.declared.answer.Answer.TheVariants as answer
+use Rattle.mc_history.specs.{declared.explanation.Move.Move, Claim.Claim}
 use Rattle.mc_why.specs.declared.cause.Finding.{Finding}
+use Rattle.mc_why.specs.{Answers.next_after, Cuts.cut, declared.answer.Answer.Answer, declared.form.Form.Form}
+use Rattle.mc_why.specs.declared.answer.Answer.TheVariants as answer
 use Rattle.mc_why.specs.declared.cause.Finding.TheVariants as finding
-use Rattle.mc_why.specs.declared.form.Form.{Form}
 use Rattle.mc_why.specs.declared.form.Form.TheVariants as form
 
 -- where no notes are kept, the section of the request at a place, and its place there: P's come first, then A's, then B's

@@ -1,7 +1,6 @@
 //! Histories cut at a place.
 ghost use Rattle.std.specs.Prelude.{◌≡◌, true, IfOk, take};
-ghost use Rattle.mc_model.specs.History.{is_history};
-ghost use Rattle.mc_model.specs.Notes.{is_record, with_notes, without_notes};
+ghost use Rattle.mc_model.specs.{History.is_history, Notes.is_record, Notes.with_notes, Notes.without_notes};
 ghost use Rattle.mc_why.specs.Cuts as cuts;
 
 use mc_model::{History, HistoryKind, Note, Sent, copy_reply};

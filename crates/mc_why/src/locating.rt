@@ -1,8 +1,7 @@
 //! The place from which on nothing explains a history.
 ghost use Rattle.std.specs.Prelude.{◌≡◌, true, is_some, [], IfOk};
 ghost use Rattle.mc_model.specs.Notes.{IsHistory};
-ghost use Rattle.mc_explain.specs.Hopeless.{IsUnexplained};
-ghost use Rattle.mc_explain.specs.Verdicts.{IsTrueOf};
+ghost use Rattle.mc_explain.specs.{Hopeless.IsUnexplained, Verdicts.IsTrueOf};
 ghost use Rattle.mc_why.specs.Cuts as cuts;
 ghost use Rattle.mc_why.specs.Locating.{IsPlaceOf};
 

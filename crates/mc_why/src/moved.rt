@@ -1,8 +1,7 @@
 //! What a cache holds after the moves of an explanation, and what it answers then.
 ghost use Rattle.std.specs.Prelude.{◌≡◌, ◌≤◌, ℕ, [], IfOk, MatchOption, OnOk};
 ghost use Rattle.mc_model.specs.Act.{act};
-ghost use Rattle.mc_claims.specs.ExplainsLaws.{move_count};
-ghost use Rattle.mc_claims.specs.Explains.{start_contents};
+ghost use Rattle.mc_claims.specs.{ExplainsLaws.move_count, Explains.start_contents};
 ghost use Rattle.mc_why.specs.Answers as answers;
 ghost use Rattle.mc_why.specs.Answering.{EachIsAnswered, IsFirstUnanswered, IsNthMove};
 

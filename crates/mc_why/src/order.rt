@@ -2,8 +2,7 @@
 ghost use Rattle.std.specs.Prelude.{◌≡◌, ◌++◌, ◌∷◌, [], Some, OnOk, codes};
 ghost use Rattle.std.specs.List.{flat_map};
 ghost use Rattle.mc_model.specs.Words.{join_words};
-ghost use Rattle.mc_history.specs.HistoryText.{marks_of};
-ghost use Rattle.mc_history.specs.PrintedHistory.{move_words};
+ghost use Rattle.mc_history.specs.{HistoryText.marks_of, PrintedHistory.move_words};
 ghost use Rattle.mc_why.specs.Answers.{next_after};
 ghost use Rattle.mc_why.specs.WhyText as texts;
 

@@ -1,8 +1,6 @@
 //! Histories that end with another reply at a place.
 ghost use Rattle.std.specs.Prelude.{◌≡◌, ◌++◌, true, IfOk, IfSome, None, slice_get, take};
-ghost use Rattle.mc_model.specs.History.{is_history};
-ghost use Rattle.mc_model.specs.Notes.{with_notes, without_notes};
-ghost use Rattle.mc_model.specs.Sections.{with_sent};
+ghost use Rattle.mc_model.specs.{History.is_history, Notes.with_notes, Notes.without_notes, Sections.with_sent};
 ghost use Rattle.mc_why.specs.Forms as forms;
 
 use crate::cutting::{copy_notes, copy_requests, cut_sections, first};

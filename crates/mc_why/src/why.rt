@@ -1,9 +1,8 @@
 //! Why nothing explains a history.
 ghost use Rattle.std.specs.Prelude.{◌+◌, ◌<◌, ◌^◌, IfOk};
 ghost use Rattle.mc_explain.specs.Hopeless.{IsUnexplained};
-ghost use Rattle.mc_why.specs.Answers.{IsAnswerIn};
 ghost use Rattle.mc_why.specs.Answering.{IsAnswerToNext, IsAnswerToUnanswered};
-ghost use Rattle.mc_why.specs.Causes.{AreAnswersAt, IsFoundOf};
+ghost use Rattle.mc_why.specs.{Answers.IsAnswerIn, Causes.AreAnswersAt, Causes.IsFoundOf};
 
 use crate::cutting::cut;
 use crate::forms::forms_at;

@@ -9,13 +9,8 @@ mod stressing;
 mod suite;
 
 ghost use Rattle.std.specs.Prelude.{◌≡◌, false, true};
-ghost use Rattle.mc_answers.specs.Answers.{AnswersQuestion, AnswersRightly};
-ghost use Rattle.mc_answers.specs.Statuses.{status_number};
-ghost use Rattle.mc_answers.specs.Writing.{WritesRightly};
-ghost use Rattle.mc_command.specs.Command.{WritesReport};
-ghost use Rattle.mc_command.specs.RepeatAnswers.{Runs};
-ghost use Rattle.mc_command.specs.SelftestAnswers.{Selftests};
-ghost use Rattle.mc_command.specs.ServeAnswers.{Serves};
+ghost use Rattle.mc_answers.specs.{Answers.AnswersQuestion, Answers.AnswersRightly, Statuses.status_number, Writing.WritesRightly};
+ghost use Rattle.mc_command.specs.{Command.WritesReport, RepeatAnswers.Runs, SelftestAnswers.Selftests, ServeAnswers.Serves};
 
 use crate::forms::{Form, write_in};
 use crate::recording::record_server;

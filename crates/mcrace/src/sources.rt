@@ -2,4 +2,4 @@
 
 /// The SHA-256 of all sources, definitions and proofs but of this file.
 pub const SOURCES: &[u8] =
-    b"sources fcbde1670df69bcc70244514edb089f315507ed232be776cad4b47261872d95a\n";
+    b"sources a89117e094f30ab7e3f78cf5dbbb60d15f9aff3f09fd50aaa3a8ff28314d408a\n";

@@ -65,7 +65,7 @@ impl<'a, R: Net<Stream = TcpStream> + Clock + Sync> Network for Clients<'a, R> {
         client: u8,
     ) -> io::Result<<TcpNetwork<'a, R> as mc_connect::Network>::Connection> {
         let section = if client == 0 { Actor::P } else { Actor::A };
-        mc_connect::Network::reconnect(&mut self.network, section).map_err(|none| none.error)
+        mc_connect::Network::connect(&mut self.network, section).map_err(|none| none.error)
     }
 }
 

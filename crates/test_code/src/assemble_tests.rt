@@ -1,8 +1,7 @@
-//! `assemble`: the parts of a script's code, and its image.
+//! `assemble`: the code of a script, by its image.
 
 use crate::images::{COUNTER_IMAGE, image_after};
 use crate::memory::again;
-use crate::parts::{COUNTER, Parts, has_parts};
 use mc_code::{Code, assemble};
 use mc_script::Script;
 use mc_script_text::parse;
@@ -26,13 +25,8 @@ end
 
 #[test]
 fn assembles(rt: HostRuntime) -> Result<(), Fail> {
-    assert!(rt; is_code_of(rt.alloc(), COUNTER_SCRIPT, &COUNTER)?);
+    assert!(rt; is_written_after(rt.alloc(), b"", COUNTER_SCRIPT, COUNTER_IMAGE)?);
     Ok(())
-}
-
-fn is_code_of(alloc: Global, text: &[u8], parts: &Parts) -> Result<bool, Fail> {
-    let code = code_of(alloc, text)?;
-    Ok(has_parts(&code, parts))
 }
 
 // What is there already stays.

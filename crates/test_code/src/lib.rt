@@ -13,6 +13,4 @@ mod images;
 #[cfg(test)]
 mod memory;
 #[cfg(test)]
-mod parts;
-#[cfg(test)]
 mod step_tests;

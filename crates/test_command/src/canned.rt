@@ -82,12 +82,10 @@ pub(crate) struct CannedNetwork {
     answers: [Answers; 3],
     /// What comes on A's connection once it was looked at after a run.
     pub(crate) later: &'static [u8],
-    /// How often the sections were connected.
-    pub(crate) connected: u32,
-    /// How often one of them was connected anew.
-    pub(crate) reconnected: u32,
-    /// How often connections were given back.
-    pub(crate) quit: u32,
+    /// How often P, A and B were connected.
+    pub(crate) connected: [u32; 3],
+    /// How many connections were given back.
+    pub(crate) released: usize,
 }
 
 impl CannedNetwork {
@@ -96,9 +94,8 @@ impl CannedNetwork {
         CannedNetwork {
             answers,
             later: b"",
-            connected: 0,
-            reconnected: 0,
-            quit: 0,
+            connected: [0; 3],
+            released: 0,
         }
     }
 }
@@ -106,27 +103,29 @@ impl CannedNetwork {
 impl Network for CannedNetwork {
     type Connection = Canned;
 
-    fn connect(&mut self) -> Result<Sections<Canned>, Unconnected> {
-        self.connected = self.connected.saturating_add(1);
+    fn connect(&mut self, section: Actor) -> Result<Canned, Unconnected> {
         let [p, a, b] = self.answers;
-        Ok(Sections {
-            p: Canned::new(p, b""),
-            a: Canned::new(a, self.later),
-            b: Canned::new(b, b""),
-        })
+        let [to_p, to_a, to_b] = self.connected;
+        match section {
+            Actor::P => {
+                self.connected = [to_p.saturating_add(1), to_a, to_b];
+                Ok(Canned::new(p, b""))
+            }
+            Actor::A => {
+                self.connected = [to_p, to_a.saturating_add(1), to_b];
+                let later = if to_a == 0 { self.later } else { b"" };
+                Ok(Canned::new(a, later))
+            }
+            Actor::B => {
+                self.connected = [to_p, to_a, to_b.saturating_add(1)];
+                Ok(Canned::new(b, b""))
+            }
+        }
     }
 
-    fn reconnect(&mut self, section: Actor) -> Result<Canned, Unconnected> {
-        self.reconnected = self.reconnected.saturating_add(1);
-        let [p, a, b] = self.answers;
-        Ok(match section {
-            Actor::P => Canned::new(p, b""),
-            Actor::A => Canned::new(a, b""),
-            Actor::B => Canned::new(b, b""),
-        })
-    }
-
-    fn quit(&mut self, _connections: Sections<Canned>) {
-        self.quit = self.quit.saturating_add(1);
+    fn release(&mut self, connections: Sections<Option<Canned>>) {
+        let Sections { p, a, b } = connections;
+        let count = usize::from(p.is_some()) + usize::from(a.is_some()) + usize::from(b.is_some());
+        self.released = self.released.saturating_add(count);
     }
 }

@@ -1,6 +1,6 @@
 //! Connections of a campaign's jobs, at listeners in the same process.
 
-use mc_connect::{Dialer, JobSocket, Servers};
+use mc_connect::{Dialer, Servers, Socket};
 use mc_protocol::{Actor, Sections};
 use std::alloc::Global;
 use std::io::{Eprint, ErrorKind, Read, Write};
@@ -221,7 +221,7 @@ where
 }
 
 // The connections of a job.
-fn connected<R>(dialer: &Dialer<'_, R>, job: u64) -> Sections<Option<JobSocket>>
+fn connected<R>(dialer: &Dialer<'_, R>, job: u64) -> Sections<Option<Socket<TcpStream>>>
 where
     R: Net<Listener = TcpListener, Stream = TcpStream> + Clock + Wait + Eprint,
 {
@@ -233,7 +233,7 @@ where
 }
 
 // The connection, if there is one, on which these bytes were sent.
-fn sent(socket: Option<JobSocket>, bytes: &[u8]) -> Option<JobSocket> {
+fn sent(socket: Option<Socket<TcpStream>>, bytes: &[u8]) -> Option<Socket<TcpStream>> {
     let mut socket = socket?;
     let _ = socket.write_all(bytes);
     Some(socket)

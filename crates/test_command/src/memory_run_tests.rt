@@ -80,7 +80,7 @@ fn a_run_is_written_as_it_came_out(rt: HostRuntime) {
         assert_eq!(rt; ran.status, status);
         assert_eq!(rt; remark_of(&ran.remarks), remark);
         // The connections of a single run are closed and not given back.
-        assert_eq!(rt; (network.connected, network.quit), (1, 0));
+        assert_eq!(rt; (network.connected, network.released), ([1, 1, 1], 0));
     }
 }
 
@@ -113,15 +113,15 @@ const TO_P_IN_THREE: Answers = &[
 ];
 
 // What is answered to A on each connection, whether the target says that each run is to have new ones, how what is written of three runs
-// begins and ends, and how often the sections were connected, one of them was connected anew, and connections were given back. B's
-// connection is always ended before the next run.
-static REPEATS: [(Answers, bool, &str, &str, (u32, u32, u32)); 5] = [
+// begins and ends, and how often each section was connected, and how many connections were given back. B's connection is always ended
+// before the next run.
+static REPEATS: [(Answers, bool, &str, &str, ([u32; 3], usize)); 5] = [
     (
         &[b"6\r\n", b"6\r\n", b"6\r\n"],
         false,
         "run 3 of 3\nP done\n",
         "end\nruns 3 explained 3 unexplained 0 other 0 overlapped 0 failed 0\n",
-        (1, 2, 1),
+        ([1, 1, 3], 3),
     ),
     // A's is ended too.
     (
@@ -129,14 +129,14 @@ static REPEATS: [(Answers, bool, &str, &str, (u32, u32, u32)); 5] = [
         false,
         "run 3 of 3\nP done\n",
         "end\nruns 3 explained 3 unexplained 0 other 0 overlapped 0 failed 0\n",
-        (1, 4, 1),
+        ([1, 3, 3], 3),
     ),
     (
         &[b"6\r\n", b"6\r\n", b"6\r\n"],
         true,
         "run 3 of 3\nP done\n",
         "end\nruns 3 explained 3 unexplained 0 other 0 overlapped 0 failed 0\n",
-        (3, 0, 3),
+        ([3, 3, 3], 9),
     ),
     // More came than was asked for, so no connection is kept.
     (
@@ -144,7 +144,7 @@ static REPEATS: [(Answers, bool, &str, &str, (u32, u32, u32)); 5] = [
         false,
         "run 3 of 3\nP done\n",
         "end\nruns 3 explained 3 unexplained 0 other 0 overlapped 0 failed 0\n",
-        (3, 0, 3),
+        ([3, 3, 3], 9),
     ),
     // The second run is unexplained, so the third one has new connections.
     (
@@ -152,7 +152,7 @@ static REPEATS: [(Answers, bool, &str, &str, (u32, u32, u32)); 5] = [
         false,
         "run 2 of 3\nP done\n",
         "end\nruns 3 explained 2 unexplained 1 other 0 overlapped 0 failed 0\n",
-        (2, 1, 2),
+        ([2, 2, 3], 6),
     ),
 ];
 
@@ -168,7 +168,7 @@ fn connections_serve_the_next_run(rt: HostRuntime) {
         let ran = run(&rt, rt.alloc(), &mut network, Some(repeat), reconnect);
         assert!(rt; ran.output.as_slice().starts_with(begin.as_bytes()));
         assert!(rt; ran.output.as_slice().ends_with(end.as_bytes()));
-        let counted = (network.connected, network.reconnected, network.quit);
+        let counted = (network.connected, network.released);
         assert_eq!(rt; counted, counts);
     }
 }

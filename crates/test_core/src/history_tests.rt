@@ -10,7 +10,7 @@ use mc_core::{Ending, World};
 use mc_explain::{Verdict, judge, print_explanation};
 use mc_protocol::Actor::*;
 use mc_protocol::{Fault, OutOfMemory};
-use mc_verify::Checked;
+use mc_sound::Checked;
 use std::alloc::Global;
 use std::test::Fail;
 

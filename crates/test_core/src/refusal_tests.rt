@@ -10,7 +10,7 @@ use mc_core::StepRefusal::*;
 use mc_core::{Event, StepRefusal, World};
 use mc_protocol::Actor::*;
 use mc_protocol::{Actor, Fault, OutOfMemory, Reply};
-use mc_verify::Checked;
+use mc_sound::Checked;
 use std::alloc::{AllocError, Global};
 use std::test::Fail;
 

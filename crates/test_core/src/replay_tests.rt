@@ -7,7 +7,7 @@ use crate::scripts::{COUNTER, LONE_BRANCH};
 use mc_core::World;
 use mc_protocol::Actor::*;
 use mc_protocol::{Fault, OutOfMemory};
-use mc_verify::Checked;
+use mc_sound::Checked;
 use std::alloc::Global;
 use std::test::Fail;
 

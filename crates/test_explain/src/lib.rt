@@ -2,12 +2,10 @@
 //! worked out by hand.
 //!
 //! What `mcrace judge` answers to a text stands in `cases/judge`. Here is what only a call shows: how many turns a search
-//! took, and orders that notes allow.
+//! took.
 #![tactic(auto)]
 
 #[cfg(test)]
 mod memory;
-#[cfg(test)]
-mod order_tests;
 #[cfg(test)]
 mod search_tests;

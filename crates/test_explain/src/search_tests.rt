@@ -1,4 +1,4 @@
-//! What a search finds, and how many turns it takes.
+//! What a search finds, and how many turns it takes. `cases/judge/turns.cases` has more of it.
 
 use crate::memory::again;
 use mc_explain::{Explanation, Verdict, judge, parse_history, print_explanation};
@@ -10,20 +10,13 @@ use std::test::Fail;
 // The lines of the requests, the limit, the lines of what is found, and the turns that are used.
 type Row = (&'static str, u64, &'static str, u64);
 
-static ROWS: [Row; 11] = [
+static ROWS: [Row; 4] = [
     // A counts first, and then B. Each of the four requests acts where it is tried first.
     (
         "P delete a -> NOT_FOUND\nP set a 0 =5 -> STORED\nA incr a 1 -> NUMBER 6\nB incr a 1 -> NUMBER 7\n",
         4,
         "P 0\nP 1\nA 2\nB 3\n",
         4,
-    ),
-    // One turn fewer leaves it open.
-    (
-        "P delete a -> NOT_FOUND\nP set a 0 =5 -> STORED\nA incr a 1 -> NUMBER 6\nB incr a 1 -> NUMBER 7\n",
-        3,
-        "undecided\n",
-        3,
     ),
     // Whichever counts second finds 6 and not 5: P's two; A's and B's after it; B's and A's after it.
     (
@@ -32,49 +25,12 @@ static ROWS: [Row; 11] = [
         "unexplained\n",
         6,
     ),
-    // What was not answered was not executed: P's two; A's, and B's after it; B's without it.
-    (
-        "P delete a -> NOT_FOUND\nP set a 0 =5 -> STORED\nA incr a 1 -> ?\nB get a -> HIT 0 =5\n",
-        u64::MAX,
-        "P 0\nP 1\nB 0\n",
-        5,
-    ),
-    // It was executed.
-    (
-        "P delete a -> NOT_FOUND\nP set a 0 =5 -> STORED\nA incr a 1 -> ?\nB get a -> HIT 0 =6\n",
-        u64::MAX,
-        "P 0\nP 1\nA 2\nB 0\n",
-        4,
-    ),
-    // It can't have been executed twice.
-    (
-        "P delete a -> NOT_FOUND\nP set a 0 =5 -> STORED\nA incr a 1 -> ?\nB get a -> HIT 0 =7\n",
-        u64::MAX,
-        "unexplained\n",
-        5,
-    ),
-    // B learns that A was faster: P's two, A's two, and B's `gets`, which finds A's body; then B's `gets` before A's
-    // `cas`, and B's `cas`.
-    (
-        "P delete a -> NOT_FOUND\nP set a 0 =1 -> STORED\nA gets a -> HIT 0 =1 11\nA cas a 0 =2 11 -> STORED\n\
-         B gets a -> HIT 0 =1 11\nB cas a 0 =3 11 -> EXISTS\n",
-        u64::MAX,
-        "P 0\nP 11\nA 0\nB 0\nA 1\nB 0\n",
-        8,
-    ),
     // Something was there before, and was the first version.
     (
         "P delete a -> DELETED\nP set a 0 =5 -> STORED\n",
         2,
         "start a 1\nP 0\nP 2\n",
         2,
-    ),
-    // P's two; A's with two choices, one turn; B's after each of them.
-    (
-        "P delete a -> NOT_FOUND\nP set a 0 =10 -> STORED\nA decr a 1 -> NUMBER 9\nB get a -> HIT 0 =9%20\n",
-        u64::MAX,
-        "P 0\nP 1\nA 2 pad\nB 0\n",
-        5,
     ),
     // A server refuses to read a body with a letter after a space.
     (
@@ -83,8 +39,6 @@ static ROWS: [Row; 11] = [
         "P 0\nP 1\nA 0 refuse\n",
         3,
     ),
-    // Nothing has to act.
-    ("", 0, "", 0),
 ];
 
 // What is found of the history of these requests in at most `limit` turns, as its lines, and the turns that were used.

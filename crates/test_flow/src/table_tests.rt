@@ -1,12 +1,9 @@
 //! The tables of one script's code, beside what was worked out by hand.
 ghost use Rattle.std.specs.Prelude.{IfOk};
-ghost use Rattle.mc_protocol.specs.declared.actor.Actor.{Actor as Section};
-ghost use Rattle.mc_protocol.specs.Sections.{section_of};
+ghost use Rattle.mc_protocol.specs.{declared.actor.Actor.Actor as Section, Sections.section_of};
 ghost use Rattle.mc_code.specs.Code.{IsCode};
-ghost use Rattle.mc_flow.specs.CostTables.{AreCostTables};
-ghost use Rattle.mc_flow.specs.FlagTables.{AreFlagTables};
-ghost use Rattle.mc_flow.specs.RunKinds.{AreKindTables};
-ghost use Rattle.mc_flow.specs.Structure.{IsStructured};
+ghost use Rattle.mc_flow.specs.{CostTables.AreCostTables, FlagTables.AreFlagTables, RunKinds.AreKindTables};
+ghost use Rattle.mc_sound.specs.Structure.{IsStructured};
 
 use mc_code::{Code, Kind, assemble};
 use mc_flow::{CostTables, FlagTables, KindTables, all_flag_tables, all_kind_tables, kind_index};

@@ -3,7 +3,7 @@
 use crate::memory::again;
 use mc_generate::{JobFault, generate_under};
 use mc_settings::Namespace;
-use mc_verify::Checked;
+use mc_sound::Checked;
 use std::alloc::Global;
 use std::test::Fail;
 

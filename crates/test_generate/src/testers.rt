@@ -2,7 +2,7 @@
 
 use mc_generate::Tester;
 use mc_protocol::{Actor, OutOfMemory};
-use mc_verify::Checked;
+use mc_sound::Checked;
 use std::alloc::AllocError;
 
 /// Gives these answers in turn, and finds no memory after the last.

@@ -1,9 +1,8 @@
 -- A call of a stream counts at most one of each: so a stream that has had few calls can count one more.
 use Rattle.std.proofs.Common.{◌≡◌, ◌<◌, ◌≤◌, ◌+◌, ◌==◌, ◌&&◌, ℕ, nat_lt, Bool, true, false, List, [], length, take, arith, if◌then◌else◌}
 use Rattle.std.specs.Prelude.{Result, Ok, Err}
-use Rattle.mc_lane.specs.declared.stream.Counts.{Counts}
-use Rattle.mc_lane.specs.MemoryStreams.{Memory, state_of}
 use Rattle.mc_lane.specs.Streams.{CanFail, Carries, Reads, StreamState, Writes, a_failed_read, a_failed_write, counts_of_read, no_counts}
+use Rattle.mc_lane.specs.{declared.stream.Counts.Counts, MemoryStreams.Memory, MemoryStreams.state_of}
 
 -- no count is above this
 abbrev pub IsCounted : ℕ → StreamState → Type 0

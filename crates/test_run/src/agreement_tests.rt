@@ -9,7 +9,7 @@ use mc_lane::MemoryStream;
 use mc_protocol::Actor::*;
 use mc_protocol::{Actor, OutOfMemory};
 use mc_run::{Lanes, agrees};
-use mc_verify::Checked;
+use mc_sound::Checked;
 use std::alloc::Global;
 use std::test::Fail;
 

@@ -12,7 +12,7 @@ use mc_core::{Ending, Event, World};
 use mc_lane::Lane;
 use mc_protocol::{Actor, Fault, OutOfMemory, Reply};
 use mc_run::{Gate, Lanes};
-use mc_verify::Checked;
+use mc_sound::Checked;
 use std::alloc::Global;
 use std::sync::Wait;
 use std::sync::atomic::{AtomicU64, Ordering};

@@ -2,8 +2,7 @@
 
 ghost use Rattle.std.specs.Prelude.{◌≡◌, IfOk, Ok};
 ghost use Rattle.mc_core.specs.Held.{IsHeldBy};
-ghost use Rattle.mc_lane.specs.MemoryStreams.{state_of};
-ghost use Rattle.mc_lane.specs.Streams.{CanFail};
+ghost use Rattle.mc_lane.specs.{MemoryStreams.state_of, Streams.CanFail};
 ghost use Rattle.mc_run.specs.Running.{AreNew, IsNew};
 
 use crate::signal::Signal;
@@ -12,7 +11,7 @@ use mc_core::Ending;
 use mc_lane::{Lane, MemoryStream, Stream};
 use mc_protocol::{Actor, Fault, OutOfMemory};
 use mc_run::{FreeGate, Gate, Lanes, Meet, Run, RunError, run_lanes, run_lanes_with};
-use mc_verify::Checked;
+use mc_sound::Checked;
 use std::alloc::{AllocError, Global};
 use std::sync::Wait;
 use std::thread::Threads;

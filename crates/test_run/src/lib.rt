@@ -15,6 +15,8 @@ mod closed_lanes;
 #[cfg(test)]
 mod counter;
 #[cfg(test)]
+mod desk_tests;
+#[cfg(test)]
 mod gate_tests;
 #[cfg(test)]
 mod lanes;

@@ -8,7 +8,7 @@ use mc_core::{Ending, Event};
 use mc_lane::MemoryStream;
 use mc_protocol::{Actor, Fault};
 use mc_run::{Branch, Lanes, Late, Manner, Meet, Run};
-use mc_verify::Checked;
+use mc_sound::Checked;
 use std::alloc::Global;
 use std::sync::Wait;
 use std::test::Fail;
@@ -23,7 +23,7 @@ const INCREMENT: &[u8] = b"incr a 1\r\n";
 const TO_PREFIX: Served = (&[b"NOT_FOUND\r\n", b"STORED\r\n"], NEVER);
 
 /// What is served to P, A and B, where each branch makes one call.
-static TO_BOTH: [Served; 3] = [TO_PREFIX, (&[b"6\r\n"], NEVER), (&[b"7\r\n"], NEVER)];
+pub(crate) static TO_BOTH: [Served; 3] = [TO_PREFIX, (&[b"6\r\n"], NEVER), (&[b"7\r\n"], NEVER)];
 
 /// P stores 5, A adds 1 three times, and B once.
 const UNEQUAL: &[u8] = b"script 1\nkeys a\nbudget P 2 26\nbudget A 3 30\nbudget B 1 10\n\
@@ -136,7 +136,7 @@ fn count_both<R: Threads + Wait + Sync>(
 }
 
 /// Whether both branches have sent their increments, and each has got what its server answers.
-fn have_incremented(lanes: &Lanes<MemoryStream>) -> bool {
+pub(crate) fn have_incremented(lanes: &Lanes<MemoryStream>) -> bool {
     let Lanes { a, b, .. } = lanes;
     let is_sent = a.sent() == INCREMENT && b.sent() == INCREMENT;
     is_sent && a.got() == b"6\r\n".as_slice() && b.got() == b"7\r\n".as_slice()

@@ -14,7 +14,7 @@ use mc_core::Ending;
 use mc_lane::MemoryStream;
 use mc_protocol::{Fault, OutOfMemory};
 use mc_run::{Lanes, Run, agrees};
-use mc_verify::Checked;
+use mc_sound::Checked;
 use std::alloc::Global;
 use std::sync::Wait;
 use std::test::Fail;

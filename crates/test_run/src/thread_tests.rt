@@ -11,7 +11,7 @@ use mc_core::{Ending, Event, World};
 use mc_lane::Lane;
 use mc_protocol::{Actor, OutOfMemory, Reply};
 use mc_run::{FreeGate, Gate, Lanes};
-use mc_verify::Checked;
+use mc_sound::Checked;
 use std::alloc::Global;
 use std::sync::Wait;
 use std::test::Fail;

@@ -9,7 +9,7 @@ use mc_core::Ending;
 use mc_lane::MemoryStream;
 use mc_protocol::Fault;
 use mc_run::{FreeGate, Meet, Run, RunError, run_lanes_with};
-use mc_verify::Checked;
+use mc_sound::Checked;
 use std::alloc::{AllocError, Global};
 use std::sync::Wait;
 use std::test::Fail;

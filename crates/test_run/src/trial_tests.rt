@@ -7,7 +7,7 @@ use crate::verdict::is_written;
 use mc_protocol::Actor::*;
 use mc_protocol::{Actor, Fault};
 use mc_run::trial;
-use mc_verify::Checked;
+use mc_sound::Checked;
 use std::alloc::Global;
 use std::test::Fail;
 

@@ -1,7 +1,6 @@
 //! A stream in memory that tells when it was written to, and that waits for a signal before it is read.
 
-ghost use Rattle.mc_lane.specs.MemoryStreams.{state_of};
-ghost use Rattle.mc_lane.specs.Streams.{CanFail, Reads, Writes};
+ghost use Rattle.mc_lane.specs.{MemoryStreams.state_of, Streams.CanFail, Streams.Reads, Streams.Writes};
 ghost use Rattle.std.specs.Prelude.{◌≡◌};
 
 use crate::signal::Signal;

@@ -18,29 +18,7 @@ incr a 1
 end
 ";
 
-// Every mark, and labels at the end of a section.
-const MARKS: &str = "script 1
-keys item
-flags ready done late
-vars unique count
-budget P 2 100
-budget A 2 100
-budget B 2 100
-P
-set item 0 =5 +ready
-A
-gets item ?ready miss:gone >unique
-cas item 0 =7 $unique exists:gone +done -ready
-gone:
-B
-incr item 1 !late notfound:gone notnumber:gone
-bind count
-decr item $count
-gone:
-end
-";
-
-/// The same, as it is printed: of two changes `+` goes before `-`, and both go before jumps.
+/// Every mark, and labels at the end of a section: of two changes `+` goes before `-`, and both go before jumps.
 pub(crate) const MARKS_PRINTED: &str = "script 1
 keys item
 flags ready done late
@@ -123,26 +101,9 @@ set:
 end
 ";
 
-// The counter after another line.
-const AFTER_A_LINE: &str = "before
-script 1
-keys a
-budget P 2 26
-budget A 1 10
-budget B 1 10
-P
-set a 0 =5
-A
-incr a 1
-B
-incr a 1
-end
-";
-
 // Each script with its printed text, which is printed of itself.
-static PRINTED: [(&str, &str); 5] = [
+static PRINTED: [(&str, &str); 4] = [
     (COUNTER, COUNTER),
-    (MARKS, MARKS_PRINTED),
     (MARKS_PRINTED, MARKS_PRINTED),
     (UNTIDY, TIDY),
     (TIDY, TIDY),
@@ -159,6 +120,6 @@ fn prints_in_one_order(rt: HostRuntime) -> Result<(), Fail> {
 #[test]
 fn appends(rt: HostRuntime) -> Result<(), Fail> {
     let out = printed(rt.alloc(), COUNTER, b"before\n")?;
-    assert!(rt; out.as_slice() == AFTER_A_LINE.as_bytes());
+    assert!(rt; out.as_slice().strip_prefix(b"before\n") == Some(COUNTER.as_bytes()));
     Ok(())
 }

@@ -1,7 +1,6 @@
 //! Notes that lanes recorded, and others.
 ghost use Rattle.std.specs.Prelude.{IfOk};
-ghost use Rattle.mc_lane.specs.MemoryStreams.{state_of};
-ghost use Rattle.mc_lane.specs.Streams.{CanFail};
+ghost use Rattle.mc_lane.specs.{MemoryStreams.state_of, Streams.CanFail};
 
 use mc_lane::{Lane, MemoryStream};
 use mc_model::{Note, Sent};

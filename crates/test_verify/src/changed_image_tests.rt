@@ -2,7 +2,7 @@
 
 use crate::answer::{Answer, COUNTER, answer_to};
 use mc_image::{ImageFault, ImageKind};
-use mc_verify::RefusalKind;
+use mc_sound::RefusalKind;
 use std::alloc::{AllocError, Global};
 use std::test::Fail;
 

@@ -1,4 +1,5 @@
-//! Tests of `mc_verify`: what its calls hand out. What code is refused for, and which run shows that, stands in `cases/check`.
+//! Tests of `mc_verify` and `mc_counterexample`: what their calls hand out. What code is refused for, and which run shows that,
+//! stands in `cases/check`.
 #![tactic(auto)]
 
 #[cfg(test)]

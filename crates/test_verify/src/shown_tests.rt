@@ -1,17 +1,18 @@
 //! Which runs show the fault of a refusal: some that do, and others that lack a call, have one too many, end elsewhere, or have a
 //! reply that can't be.
 ghost use Rattle.std.specs.Prelude.{◌≡◌, ◌<◌, true};
-ghost use Rattle.mc_verify.specs.Checked.{IsRefusalOf};
-ghost use Rattle.mc_verify.specs.Refusals.{HasNoneFrom, kind_number};
+ghost use Rattle.mc_verify.specs.Refusals.{IsRefusalOf};
+ghost use Rattle.mc_sound.specs.LeastFaults.{HasNoneFrom, kind_number};
 
 use crate::answer::{Fault, fault_of};
 use mc_code::{Code, assemble};
+use mc_counterexample::shows;
 use mc_protocol::Actor::{self, *};
 use mc_protocol::Class::{self, *};
 use mc_protocol::FaultKind;
 use mc_script_text::parse;
-use mc_verify::RefusalKind::*;
-use mc_verify::{Refusal, shows, verify};
+use mc_sound::RefusalKind::*;
+use mc_verify::{Refusal, verify};
 use std::alloc::Global;
 use std::test::Fail;
 

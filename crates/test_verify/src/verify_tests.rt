@@ -3,7 +3,7 @@
 use crate::answer::{Answer, COUNTER, Fault, answer_to, fault_of};
 use mc_code::Code;
 use mc_image::encode;
-use mc_protocol::{Actor, Class, FaultKind};
+use mc_protocol::{Actor, Class};
 use mc_verify::{Checked, RefusalKind};
 use std::alloc::{AllocError, Global};
 use std::test::Fail;
@@ -58,12 +58,6 @@ fn refused_poor_counter(alloc: Global) -> Result<Option<(Fault, bool, bool)>, Fa
     // the first byte of P's budget of bytes: 26 bytes become 25
     bytes[11] = 25;
     refused(alloc, &bytes)
-}
-
-#[test]
-fn names_its_refusals(rt: HostRuntime) {
-    assert_eq!(rt; RefusalKind::TooManyBytes.number(), 11);
-    assert_eq!(rt; RefusalKind::TooManyBytes.name(), "TooManyBytes");
 }
 
 /// What is wrong with the code of the image, whether P's delete alone is shown, and whether the code that is handed back has the

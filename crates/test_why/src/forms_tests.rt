@@ -1,4 +1,5 @@
-//! Which replies would be explained at the place from which on nothing explains a history.
+//! Which replies would be explained at the place from which on nothing explains a history: bodies, and the numbers of versions.
+//! `cases/judge/why.cases` has replies of words alone, and numbers.
 
 use crate::why_tests::found_of;
 use mc_explain::parse_history;
@@ -10,83 +11,6 @@ use std::test::Fail;
 
 // The text of a history that nothing explains, the limit of each search, and the forms that are to be told, each on a line.
 type Row = (&'static str, u64, &'static str);
-
-static WORDS: [Row; 5] = [
-    // A stored first, so B finds an item.
-    (
-        "history 2\nP begin delete k\nP reply NOT_FOUND\nA begin add k 0 =a\nB begin add k 0 =b\nA reply STORED\nB reply STORED\nend\n",
-        u64::MAX,
-        "NOT_STORED\n",
-    ),
-    (
-        "history 2\nP begin delete k\nP reply NOT_FOUND\nP begin set k 0 =a\nP reply STORED\nA begin delete k\nB begin delete k\n\
-         A reply DELETED\nB reply DELETED\nend\n",
-        u64::MAX,
-        "NOT_FOUND\n",
-    ),
-    // One cas changes the number for which the other asks.
-    (
-        "history 2\nP begin delete k\nP reply NOT_FOUND\nP begin set k 0 =a\nP reply STORED\nP begin gets k\nP reply HIT 0 =a 7\n\
-         A begin cas k 0 =b 7\nB begin cas k 0 =c 7\nA reply STORED\nB reply STORED\nend\n",
-        u64::MAX,
-        "EXISTS\n",
-    ),
-    // What P stored is there.
-    (
-        "history 2\nP begin delete k\nP reply NOT_FOUND\nP begin set k 0 =a\nP reply STORED\nP begin touch k\nP reply NOT_FOUND\nend\n",
-        u64::MAX,
-        "TOUCHED\n",
-    ),
-    // What was there at the start is gone.
-    (
-        "history 1\nP delete k -> DELETED\nP delete k -> DELETED\nend\n",
-        u64::MAX,
-        "NOT_FOUND\n",
-    ),
-];
-
-static NUMBERS: [Row; 6] = [
-    // A lost update.
-    (
-        "history 2\nP begin delete k\nP reply NOT_FOUND\nP begin set k 0 =5\nP reply STORED\nA begin incr k 1\nB begin incr k 1\n\
-         A reply NUMBER 6\nB reply NUMBER 6\nend\n",
-        u64::MAX,
-        "NUMBER 7\n",
-    ),
-    // A has no reply yet, and may have counted or not.
-    (
-        "history 2\nP begin delete k\nP reply NOT_FOUND\nP begin set k 0 =5\nP reply STORED\nA begin incr k 1\nB begin incr k 1\n\
-         B reply NUMBER 9\nend\n",
-        u64::MAX,
-        "NUMBER 6\nNUMBER 7\n",
-    ),
-    // A may have stored less before B counts, or after it: the smaller number comes first.
-    (
-        "history 1\nP delete k -> NOT_FOUND\nP set k 0 =9 -> STORED\nA set k 0 =5 -> STORED\nB incr k 1 -> NUMBER 9\nend\n",
-        u64::MAX,
-        "NUMBER 6\nNUMBER 10\n",
-    ),
-    // In the recorded order it comes after A's.
-    (
-        "history 2\nP begin delete k\nP reply NOT_FOUND\nP begin set k 0 =9\nP reply STORED\nA begin set k 0 =5\nA reply STORED\n\
-         B begin incr k 1\nB reply NUMBER 10\nend\n",
-        u64::MAX,
-        "NUMBER 6\n",
-    ),
-    // One server reads 1 there, and another refuses the body.
-    (
-        "history 1\nP delete k -> NOT_FOUND\nP set k 0 =1%20x -> STORED\nP incr k 1 -> NUMBER 3\nend\n",
-        u64::MAX,
-        "NOT_A_NUMBER\nNUMBER 2\n",
-    ),
-    // A deleted what B counts, or not yet.
-    (
-        "history 2\nP begin delete k\nP reply NOT_FOUND\nP begin set k 0 =5\nP reply STORED\nA begin delete k\nB begin decr k 7\n\
-         B reply NUMBER 5\nend\n",
-        u64::MAX,
-        "NOT_FOUND\nNUMBER 0\n",
-    ),
-];
 
 static BODIES: [Row; 7] = [
     // The bodies were joined in either order.
@@ -226,22 +150,6 @@ fn are_told(alloc: Global, row: &Row) -> Result<bool, Fail> {
         }
         Some(Finding::Undecided(_)) | None => Ok(false),
     }
-}
-
-#[test]
-fn tells_replies_of_words_alone(rt: HostRuntime) -> Result<(), Fail> {
-    for row in &WORDS {
-        assert!(rt; are_told(rt.alloc(), row)?, "{}", row.0);
-    }
-    Ok(())
-}
-
-#[test]
-fn tells_numbers(rt: HostRuntime) -> Result<(), Fail> {
-    for row in &NUMBERS {
-        assert!(rt; are_told(rt.alloc(), row)?, "{}", row.0);
-    }
-    Ok(())
 }
 
 #[test]

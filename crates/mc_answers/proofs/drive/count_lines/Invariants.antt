@@ -1,6 +1,5 @@
 use Rattle.std.proofs.Common.{◌≡◌, length}
-use Rattle.mc_protocol.specs.declared.lines.Separator.TheVariants.{Space}
-use Rattle.mc_protocol.specs.Lines.{counted, line_count, lines_of_text}
+use Rattle.mc_protocol.specs.{declared.lines.Separator.TheVariants.Space, Lines.counted, Lines.line_count, Lines.lines_of_text}
 use Rattle.mc_answers.proofs.drive.count_lines.Given as goal
 
 abbrev pub invariant-lines : goal.invariant-lines

@@ -1,9 +1,7 @@
 use Rattle.std.proofs.Common.{ap, ◌≡◌, ◌∙◌, ◌+◌, take, inl, inr, refl}
 use Rattle.std.specs.Prelude.{min}
-use Rattle.mc_protocol.specs.Lines.{LAST_NUMBER, line_count, lines_of_text}
-use Rattle.mc_protocol.specs.declared.lines.Separator.TheVariants.{Space}
-use Rattle.mc_answers.proofs.Fronts.{begins_inside}
-use Rattle.mc_answers.proofs.Refused.{IfRefused-weaker}
+use Rattle.mc_protocol.specs.{Lines.LAST_NUMBER, Lines.line_count, Lines.lines_of_text, declared.lines.Separator.TheVariants.Space}
+use Rattle.mc_answers.proofs.{Fronts.begins_inside, Refused.IfRefused-weaker}
 use Rattle.mc_answers.specs.DriveAnswers.{Drives, line_after, lines_before}
 use Rattle.mc_answers.specs.declared.status.Status.TheVariants as status
 use Rattle.mc_answers.proofs.drive.drive_steps.Goals as goal

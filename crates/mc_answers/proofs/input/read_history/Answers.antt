@@ -1,7 +1,6 @@
 use Rattle.std.proofs.Common.{arith, ap, inr, length, subst, sym, take, ◌≡◌, ◌∙◌, ◌<◌, ◌≤◌}
 use Rattle.std.proofs.lemmas.List.{take-append-le}
-use Rattle.mc_answers.specs.Answers.{INPUT_LIMIT, TIMELINE_LIMIT}
-use Rattle.mc_answers.specs.TimelineAnswers.{BeginsTimeline}
+use Rattle.mc_answers.specs.{Answers.INPUT_LIMIT, Answers.TIMELINE_LIMIT, TimelineAnswers.BeginsTimeline}
 use Rattle.mc_answers.proofs.Lengths.{longer_by, loses_added, takes_added, whole_at_end}
 use Rattle.mc_answers.proofs.input.read_history.Goals as goal
 

@@ -1,5 +1,4 @@
-use Rattle.mc_answers.proofs.Limits.{lacking_memory}
-use Rattle.mc_answers.proofs.Right.{answer_written, fault_written}
+use Rattle.mc_answers.proofs.{Limits.lacking_memory, Right.answer_written, Right.fault_written}
 use Rattle.mc_answers.specs.Answers.{IsAnswerTo, most_read}
 use Rattle.mc_answers.proofs.program.answer_question.Goals as goal
 

@@ -1,12 +1,8 @@
 use Rattle.std.proofs.Common.{ap, inl, inr, refl, ◌∙◌}
 use Rattle.mc_answers.proofs.Limits.{lacking_memory, most_is_small, takes_as_many, takes_few}
-use Rattle.mc_answers.proofs.LineFaults.{asking_lacks_memory, fault_is}
-use Rattle.mc_answers.proofs.Questions.{same_question}
-use Rattle.mc_answers.proofs.Right.{out_of_memory_by}
+use Rattle.mc_answers.proofs.{LineFaults.asking_lacks_memory, LineFaults.fault_is, Questions.same_question, Right.out_of_memory_by}
 use Rattle.mc_cli.specs.declared.request.Request.TheVariants as request
-use Rattle.mc_answers.specs.Answers.{IsAnswerTo, most_read}
-use Rattle.mc_answers.specs.Command.{reads_history}
-use Rattle.mc_answers.specs.Statuses.{status_number}
+use Rattle.mc_answers.specs.{Answers.IsAnswerTo, Answers.most_read, Command.reads_history, Statuses.status_number}
 use Rattle.mc_answers.proofs.program.command.Goals as goal
 
 pub returns-in-Ok-Question-clause-answered : goal.returns-in-Ok-Question-clause-answered

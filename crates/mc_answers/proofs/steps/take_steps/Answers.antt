@@ -1,7 +1,6 @@
 use Rattle.std.proofs.Common.{◌≡◌, ◌+◌, ◌<◌, ◌≤◌, ℕ, [], ◌∷◌, ◌++◌, List, length, take, map-id, sym, ap, ap₂, ◌∙◌, arith, length-append}
-use Rattle.std.proofs.lemmas.Iterator.Adapters.{YieldsList-from_vec}
 use Rattle.std.proofs.lemmas.Iterator.Consumers.{YieldsList-so_far, YieldsList-turn}
-use Rattle.std.proofs.lemmas.List.{take_more}
+use Rattle.std.proofs.{lemmas.Iterator.Adapters.YieldsList-from_vec, lemmas.List.take_more}
 use Rattle.mc_core.specs.Worlds.{Noted}
 use Rattle.mc_answers.proofs.StepNotes.{none_made, one_more_made}
 use Rattle.mc_answers.proofs.steps.take_steps.Goals.{then-notes-gt0+in_ok-push, else-notes-gt0}

@@ -1,8 +1,5 @@
 use Rattle.std.proofs.Common.{◌≡◌, ◌≤◌, length}
-use Rattle.mc_core.specs.Held.{IsHeldBy}
-use Rattle.mc_core.specs.Safety.{AreSmall}
-use Rattle.mc_core.specs.Steps.{IsFold}
-use Rattle.mc_core.specs.Worlds.{new_world}
+use Rattle.mc_core.specs.{Held.IsHeldBy, Safety.AreSmall, Steps.IsFold, Worlds.new_world}
 use Rattle.mc_answers.specs.StepLines.{AreMadeBy}
 use Rattle.mc_answers.proofs.steps.take_steps.Given as goal
 

@@ -1,6 +1,5 @@
 use Rattle.std.proofs.Common.{◌≡◌, ◌+◌, ◌∙◌, ap, arith}
-use Rattle.std.specs.List.{range_with_len}
-use Rattle.std.specs.Option.{option_copied}
+use Rattle.std.specs.{List.range_with_len, Option.option_copied}
 use Rattle.mc_campaign.proofs.MoreJobs.{one_more_judged, one_more_number, one_more_outcome}
 use Rattle.mc_campaign.proofs.collector.settle_all.Goals as goal
 

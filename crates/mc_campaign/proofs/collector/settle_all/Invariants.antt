@@ -1,6 +1,5 @@
 use Rattle.std.proofs.Common.{◌≡◌, map}
-use Rattle.std.specs.List.{All, range_with_len}
-use Rattle.std.specs.Option.{option_copied}
+use Rattle.std.specs.{List.All, List.range_with_len, Option.option_copied}
 use Rattle.mc_campaign.specs.Outcomes.{IsJudgedWithin, IsOutcome}
 use Rattle.mc_campaign.proofs.collector.settle_all.Given as goal
 

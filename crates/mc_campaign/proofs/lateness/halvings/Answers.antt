@@ -1,6 +1,6 @@
 use Rattle.std.proofs.Common.{◌≡◌, ◌≤◌, ◌<◌, ◌*◌, ◌^◌, ℕ, subst, arith}
-use native.Mathlib.Numerals.{unary_clauses}
 use Rattle.std.proofs.lemmas.Nat.{leading_top}
+use native.Mathlib.Numerals.{unary_clauses}
 use Rattle.mc_campaign.proofs.lateness.halvings.Goals as goal
 
 pub returns-clause-halved : goal.returns-clause-halved

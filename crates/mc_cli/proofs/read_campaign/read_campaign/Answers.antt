@@ -1,5 +1,4 @@
-use Rattle.std.proofs.lemmas.Result.{err_from_is_err_and}
-use Rattle.std.proofs.Common.{codes}
+use Rattle.std.proofs.{lemmas.Result.err_from_is_err_and, Common.codes}
 use Rattle.clap.specs.Words.{first_value, found_of}
 use Rattle.mc_cli.proofs.Once.{name_is, plan_once}
 use Rattle.mc_cli.proofs.read_campaign.read_campaign.Goals as goal

@@ -1,9 +1,7 @@
 use Rattle.std.proofs.Common.{◌∙◌, map, string_bytes, sym, subst, Some, inl, inr}
 use Rattle.std.proofs.Math.Path.{fun_ext}
-use Rattle.mc_cli.proofs.Asks.{asks_once, fault_by_clap, fault_of_values}
-use Rattle.mc_cli.proofs.Line.{command_is, line_faults-is, program_is_simple, value_is}
-use Rattle.mc_cli.specs.Asking.{IsAskedBy}
-use Rattle.mc_cli.specs.declared.request.Request.{Request}
+use Rattle.mc_cli.proofs.{Asks.asks_once, Asks.fault_by_clap, Asks.fault_of_values, Line.command_is, Line.line_faults-is, Line.program_is_simple, Line.value_is}
+use Rattle.mc_cli.specs.{Asking.IsAskedBy, declared.request.Request.Request}
 use Rattle.mc_cli.proofs.request.read_request.Goals as goal
 
 pub returns-in-Err-clause-fault : goal.returns-in-Err-clause-fault

@@ -1,5 +1,4 @@
-use Rattle.std.proofs.Common.{refl}
-use Rattle.std.proofs.lemmas.Result.{IfOk-weaker}
+use Rattle.std.proofs.{Common.refl, lemmas.Result.IfOk-weaker}
 use Rattle.mc_cli.proofs.Subcommands.{added}
 use Rattle.mc_cli.proofs.subcommand.program.Goals as goal
 

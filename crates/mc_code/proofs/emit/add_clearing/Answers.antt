@@ -1,6 +1,5 @@
 use Rattle.std.proofs.Common.{◌≡◌, ◌+◌, ◌∷◌, [], drop, get_or, arith}
-use Rattle.std.proofs.lemmas.Grind.{common_steps}
-use Rattle.std.proofs.lemmas.List.{drop_more}
+use Rattle.std.proofs.{lemmas.Grind.common_steps, lemmas.List.drop_more}
 use Rattle.mc_code.proofs.emit.add_clearing.Goals as goal
 
 pub keys-preserved : goal.keys-preserved

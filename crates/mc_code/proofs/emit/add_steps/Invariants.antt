@@ -1,6 +1,5 @@
 use Rattle.std.proofs.Common.{◌≡◌, ◌+◌, ◌++◌, length, drop}
-use Rattle.mc_code.specs.Layout.{requests_of}
-use Rattle.mc_code.specs.Assembling.{instructions_from}
+use Rattle.mc_code.specs.{Layout.requests_of, Assembling.instructions_from}
 use Rattle.mc_code.proofs.emit.add_steps.Given as goal
 
 abbrev pub invariant-steps : goal.invariant-steps

@@ -1,8 +1,6 @@
 use Rattle.std.proofs.Common.{◌≡◌, ◌+◌, ◌<◌, ◌++◌, drop}
 use Rattle.std.specs.List.{All}
-use Rattle.mc_code.specs.declared.limits.TheConstants.{INSTRUCTIONS_LIMIT}
-use Rattle.mc_code.specs.Layout.{size_of_all}
-use Rattle.mc_code.specs.Assembling.{places_from}
+use Rattle.mc_code.specs.{declared.limits.TheConstants.INSTRUCTIONS_LIMIT, Layout.size_of_all, Assembling.places_from}
 use Rattle.mc_code.proofs.places.step_places.Given as goal
 
 abbrev pub invariant-steps : goal.invariant-steps

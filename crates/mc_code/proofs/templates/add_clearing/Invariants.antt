@@ -1,6 +1,5 @@
 use Rattle.std.proofs.Common.{◌≡◌, ◌++◌, drop}
-use Rattle.mc_code.specs.Layout.{requests_of}
-use Rattle.mc_code.specs.ScriptRuns.{clearing_steps}
+use Rattle.mc_code.specs.{Layout.requests_of, ScriptRuns.clearing_steps}
 use Rattle.mc_code.proofs.templates.add_clearing.Given as goal
 
 abbrev pub invariant-keys : goal.invariant-keys

@@ -1,6 +1,5 @@
 use Rattle.std.proofs.Common.{inl, inr, refl, []}
-use Rattle.mc_command.proofs.BlockSteps.{ended, reported_by}
-use Rattle.mc_command.proofs.BlockTexts.{broken_off, grows_by_none, none_in_blocks}
+use Rattle.mc_command.proofs.{BlockSteps.ended, BlockSteps.reported_by, BlockTexts.broken_off, BlockTexts.grows_by_none, BlockTexts.none_in_blocks}
 use Rattle.mc_answers.specs.Writing.{out_of_memory_text}
 use Rattle.mc_answers.specs.declared.status.Status.TheVariants as status
 use Rattle.mc_command.proofs.blocks.answer_in_blocks.Goals as goal

@@ -1,6 +1,5 @@
 use Rattle.std.proofs.Common.{◌∷◌, ◌++◌, []}
-use Rattle.mc_command.proofs.BlockSteps.{stands_written}
-use Rattle.mc_command.proofs.BlockTexts.{written_more}
+use Rattle.mc_command.proofs.{BlockSteps.stands_written, BlockTexts.written_more}
 use Rattle.mc_command.proofs.blocks.make_room.Goals as goal
 
 pub returns-in_ok-write_all-clause-stands : goal.returns-in_ok-write_all-clause-stands

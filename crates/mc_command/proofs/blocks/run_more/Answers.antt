@@ -1,6 +1,5 @@
 use Rattle.std.proofs.Common.{◌∙◌, ◌+◌, ◌≤◌, ap, arith, length, length-append}
-use Rattle.mc_command.proofs.BlockSteps.{stands_more}
-use Rattle.mc_command.proofs.Shown.{true_verdicts}
+use Rattle.mc_command.proofs.{BlockSteps.stands_more, Shown.true_verdicts}
 use Rattle.mc_command.specs.Blocks.{MOST_IN_BLOCK}
 use Rattle.mc_cli.specs.Args.{GREATEST_JOBS}
 use Rattle.mc_command.proofs.blocks.run_more.Goals as goal

@@ -1,5 +1,4 @@
-use Rattle.std.proofs.Common.{refl}
-use Rattle.std.proofs.lemmas.Result.{err_from_is_err_and}
+use Rattle.std.proofs.{Common.refl, lemmas.Result.err_from_is_err_and}
 use Rattle.mc_command.proofs.blocks.run_next.Goals as goal
 
 pub returns-in_err-run_more-clause-stopped : goal.returns-in_err-run_more-clause-stopped

@@ -1,8 +1,7 @@
 use Rattle.std.proofs.Common.{◌≡◌, ◌+◌, ◌<◌, ◌-◌, ◌^◌, ◌∙◌, ◌∷◌, [], ◌++◌, Option, ℕ, length, ap, inl, inr, sym, arith}
-use Rattle.core.specs.Option.{unwrap_or}
 use Rattle.std.proofs.lemmas.List.{length-append}
-use Rattle.mc_command.specs.RepeatAnswers.{succeeds}
-use Rattle.mc_command.specs.declared.totals.Totals.{Totals}
+use Rattle.core.specs.Option.{unwrap_or}
+use Rattle.mc_command.specs.{RepeatAnswers.succeeds, declared.totals.Totals.Totals}
 use Rattle.mc_command.proofs.MoreRuns.{failed_by, succeeded_by}
 use Rattle.mc_command.proofs.repeating.first_runs.Goals as goal
 

@@ -1,6 +1,5 @@
 use Rattle.std.proofs.Common.{◌≡◌, List}
-use Rattle.mc_command.specs.SoFar.{IsSoFar}
-use Rattle.mc_command.specs.declared.run.Played.{Played}
+use Rattle.mc_command.specs.{SoFar.IsSoFar, declared.run.Played.Played}
 use Rattle.mc_command.proofs.repeating.first_runs.Given as goal
 
 abbrev pub invariant-runs : goal.invariant-runs

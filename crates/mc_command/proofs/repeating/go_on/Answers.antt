@@ -1,12 +1,8 @@
 use Rattle.std.proofs.Common.{◌≡◌, ◌+◌, ◌<◌, ◌-◌, ◌^◌, ◌∙◌, ◌∷◌, [], ◌++◌, Option, ℕ, length, ap, inl, inr, refl, sym, arith}
+use Rattle.std.proofs.{lemmas.Bool.false≢true, lemmas.List.length-append}
 use Rattle.core.specs.Option.{unwrap_or}
-use Rattle.std.proofs.lemmas.Bool.{false≢true}
-use Rattle.std.proofs.lemmas.List.{length-append}
-use Rattle.mc_command.specs.RepeatAnswers.{AreSettled, succeeds}
-use Rattle.mc_command.specs.declared.totals.Totals.{Totals}
-use Rattle.mc_command.proofs.KeyNames.{none_settled, none_under, own_right, right_under}
-use Rattle.mc_command.proofs.MoreRuns.{settled_before}
-use Rattle.mc_command.proofs.RunTexts.{comes_on}
+use Rattle.mc_command.specs.{RepeatAnswers.AreSettled, RepeatAnswers.succeeds, declared.totals.Totals.Totals}
+use Rattle.mc_command.proofs.{KeyNames.none_settled, KeyNames.none_under, KeyNames.own_right, KeyNames.right_under, MoreRuns.settled_before, RunTexts.comes_on}
 use Rattle.mc_command.proofs.repeating.go_on.Goals as goal
 
 pub runs-init : goal.runs-init

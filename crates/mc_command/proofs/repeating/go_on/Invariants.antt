@@ -1,7 +1,5 @@
 use Rattle.std.proofs.Common.{◌≡◌, ◌<◌, ◌≤◌, ℕ, false, IfSome, List, None, Some, length}
-use Rattle.mc_command.specs.RepeatAnswers.{AreSettled, IsUnderSome, succeeds}
-use Rattle.mc_command.specs.SoFar.{IsSoFar}
-use Rattle.mc_command.specs.declared.run.Played.{Played}
+use Rattle.mc_command.specs.{RepeatAnswers.AreSettled, RepeatAnswers.IsUnderSome, RepeatAnswers.succeeds, SoFar.IsSoFar, declared.run.Played.Played}
 use Rattle.mc_command.proofs.repeating.go_on.Given as goal
 
 abbrev pub invariant-runs : goal.invariant-runs

@@ -1,6 +1,5 @@
 use Rattle.std.proofs.Common.{subst}
-use Rattle.mc_generate.specs.Generated.{generated}
-use Rattle.mc_generate.specs.Shrunk.{IsShrinking}
+use Rattle.mc_generate.specs.{Generated.generated, Shrunk.IsShrinking}
 use Rattle.mc_command.proofs.shrinking.shrunk_script.Goals as goal
 
 pub rounds-init : goal.rounds-init

@@ -1,5 +1,4 @@
-use Rattle.mc_generate.specs.Generated.{generated}
-use Rattle.mc_generate.specs.Shrunk.{IsShrinking}
+use Rattle.mc_generate.specs.{Generated.generated, Shrunk.IsShrinking}
 use Rattle.mc_command.proofs.shrinking.shrunk_script.Given as goal
 
 abbrev pub invariant-rounds : goal.invariant-rounds

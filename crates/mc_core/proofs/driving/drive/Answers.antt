@@ -1,6 +1,5 @@
 use Rattle.std.proofs.Common.{[], ◌∷◌, arith, length-append, sym, ◌∙◌}
-use Rattle.mc_core.proofs.LongerFolds.{taken, skipped_over}
-use Rattle.mc_core.proofs.Safe.{folds_safe}
+use Rattle.mc_core.proofs.{LongerFolds.taken, LongerFolds.skipped_over, Safe.folds_safe}
 use Rattle.mc_core.proofs.driving.drive.Goals as goal
 
 pub driving-preserved-then-is_err : goal.driving-preserved-then-is_err

@@ -1,8 +1,5 @@
 use Rattle.std.proofs.Common.{◌≤◌, length}
-use Rattle.mc_core.specs.Held.{IsHeldBy}
-use Rattle.mc_core.specs.Safety.{AreSmall}
-use Rattle.mc_core.specs.Steps.{IsFold}
-use Rattle.mc_core.specs.Worlds.{new_world}
+use Rattle.mc_core.specs.{Held.IsHeldBy, Safety.AreSmall, Steps.IsFold, Worlds.new_world}
 use Rattle.mc_core.proofs.driving.drive.Given as goal
 
 abbrev pub invariant-driving : goal.invariant-driving

@@ -1,5 +1,4 @@
-use Rattle.std.proofs.Common.{rules, tests}
-use Rattle.std.proofs.lemmas.Slice.Eq.{slice_eq-Decides}
+use Rattle.std.proofs.{Common.rules, Common.tests, lemmas.Slice.Eq.slice_eq-Decides}
 use Rattle.mc_core.proofs.replaying.are_same_calls.Goals as goal
 
 pub returns : goal.returns

@@ -2,7 +2,7 @@ use Rattle.std.proofs.Common.{◌≡◌, slice_get, Some, sym, subst}
 use Rattle.std.proofs.lemmas.Option.{slice_get-get_or}
 use Rattle.mc_code.specs.Calls.{no_template}
 use Rattle.mc_flow.specs.CostTables.{weights_of}
-use Rattle.mc_flow.specs.declared.measure.Measure.TheVariants as measure
+use Rattle.mc_sound.specs.declared.measure.Measure.TheVariants as measure
 use Rattle.mc_flow.proofs.CallCosts.{weight_at}
 use Rattle.mc_flow.proofs.weights.call_cost.Goals as goal
 

@@ -1,8 +1,7 @@
 use Rattle.std.proofs.Common.{take, ◌++◌, ◌∷◌, [], ap, sym, ◌∙◌}
-use Rattle.std.proofs.lemmas.List.{take_more}
-use Rattle.std.proofs.lemmas.Option.{slice_get_within, get_or_from_slice_get}
+use Rattle.std.proofs.{lemmas.List.take_more, lemmas.Option.slice_get_within, lemmas.Option.get_or_from_slice_get}
 use Rattle.mc_flow.specs.CostTables.{weights_of}
-use Rattle.mc_flow.specs.declared.measure.Measure.TheVariants as measure
+use Rattle.mc_sound.specs.declared.measure.Measure.TheVariants as measure
 use Rattle.mc_flow.proofs.weights.template_bytes.Goals as goal
 
 pub templates-preserved : goal.templates-preserved

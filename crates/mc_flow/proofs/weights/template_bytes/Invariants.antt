@@ -1,6 +1,6 @@
 use Rattle.std.proofs.Common.{◌≡◌, take}
 use Rattle.mc_flow.specs.CostTables.{weights_of}
-use Rattle.mc_flow.specs.declared.measure.Measure.TheVariants as measure
+use Rattle.mc_sound.specs.declared.measure.Measure.TheVariants as measure
 use Rattle.mc_flow.proofs.weights.template_bytes.Given as goal
 
 abbrev pub invariant-templates : goal.invariant-templates

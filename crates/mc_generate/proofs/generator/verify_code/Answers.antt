@@ -1,5 +1,5 @@
 use Rattle.std.proofs.Common.{◌≡◌}
-use Rattle.mc_verify.specs.declared.refusal.RefusalKind.TheVariants as kind
+use Rattle.mc_sound.specs.declared.refusal_kind.RefusalKind.TheVariants as kind
 use Rattle.mc_generate.proofs.RefusalFacts.{fault-named}
 use Rattle.mc_generate.proofs.generator.verify_code.Goals as goal
 

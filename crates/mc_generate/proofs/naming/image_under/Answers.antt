@@ -1,6 +1,5 @@
 use Rattle.std.proofs.Common.{◌∙◌}
-use Rattle.mc_generate.proofs.ImageUnder.{front-within, image-joined}
-use Rattle.mc_generate.proofs.KeysUnder.{short-under}
+use Rattle.mc_generate.proofs.{ImageUnder.front-within, ImageUnder.image-joined, KeysUnder.short-under}
 use Rattle.mc_generate.proofs.naming.image_under.Goals as goal
 
 pub front_of-requires-2-clause-short : goal.front_of-requires-2-clause-short

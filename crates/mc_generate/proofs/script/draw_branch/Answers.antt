@@ -1,7 +1,5 @@
 use Rattle.std.proofs.Common.{ℕ, ◌+◌, arith}
-use Rattle.mc_generate.specs.Outputs.{outputs_of}
-use Rattle.mc_generate.specs.Pieces.{pieces_in}
-use Rattle.mc_generate.specs.Generated.{branch_of}
+use Rattle.mc_generate.specs.{Outputs.outputs_of, Pieces.pieces_in, Generated.branch_of}
 use Rattle.mc_generate.proofs.Drawn.{piece-more}
 use Rattle.mc_generate.proofs.script.draw_branch.Goals as goal
 

@@ -1,8 +1,5 @@
 use Rattle.std.proofs.Common.{◌≡◌, ◌-◌}
-use Rattle.mc_generate.specs.Outputs.{outputs_of}
-use Rattle.mc_generate.specs.Pieces.{pieces_in}
-use Rattle.mc_generate.specs.Branches.{with_pieces}
-use Rattle.mc_generate.specs.Generated.{branch_of}
+use Rattle.mc_generate.specs.{Outputs.outputs_of, Pieces.pieces_in, Branches.with_pieces, Generated.branch_of}
 use Rattle.mc_generate.proofs.script.draw_branch.Given as goal
 
 abbrev pub invariant-pieces : goal.invariant-pieces

@@ -2,8 +2,7 @@ use Rattle.std.proofs.Common.{◌≤◌, sym, subst, ◌∙◌, arith}
 use Rattle.mc_protocol.specs.Decimals.{MAX_64}
 use Rattle.mc_script.specs.WellFormed.{IsScript}
 use Rattle.mc_generate.specs.Outputs.{outputs_of}
-use Rattle.mc_generate.proofs.Drawn.{script-drawn}
-use Rattle.mc_generate.proofs.Formed.{generated-formed}
+use Rattle.mc_generate.proofs.{Drawn.script-drawn, Formed.generated-formed}
 use Rattle.mc_generate.proofs.script.generate_script.Goals as goal
 
 pub new-requires : goal.new-requires

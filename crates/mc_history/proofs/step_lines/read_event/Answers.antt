@@ -1,5 +1,4 @@
-use Rattle.std.proofs.Common.{ℕ, List, codes, Bor}
-use Rattle.std.proofs.lemmas.Result.{err_from_is_err_and}
+use Rattle.std.proofs.{Common.ℕ, Common.List, Common.codes, Common.Bor, lemmas.Result.err_from_is_err_and}
 use Rattle.mc_protocol.proofs.FirstItems.{words_split}
 use Rattle.mc_history.proofs.StepLines.{no_fail}
 use Rattle.mc_history.proofs.step_lines.read_event.Goals as goal

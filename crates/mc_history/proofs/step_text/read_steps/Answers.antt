@@ -1,11 +1,9 @@
 use Rattle.std.proofs.Common.{◌≡◌, ◌≤◌, ◌∷◌, [], length, ap, refl, ◌∙◌, arith, length-append}
 use Rattle.std.proofs.lemmas.Result.{err_from_is_err_and}
 use Rattle.mc_protocol.proofs.FirstItems.{head_is, rest_is}
-use Rattle.mc_history.specs.declared.step_text.TheConstants.{STEP_LIST_LIMIT}
-use Rattle.mc_history.specs.HistoryText.{end_line}
+use Rattle.mc_history.specs.{declared.step_text.TheConstants.STEP_LIST_LIMIT, HistoryText.end_line}
 use Rattle.mc_history.proofs.Reading.{read_on, read_all, stops, stops_at, ended}
-use Rattle.mc_history.proofs.StepLines.{step_is_not_end}
-use Rattle.mc_history.proofs.StepLists.{steps_are_readable}
+use Rattle.mc_history.proofs.{StepLines.step_is_not_end, StepLists.steps_are_readable}
 use Rattle.mc_history.proofs.step_text.read_steps.Goals as goal
 
 pub returns-in_err-line-clause-none : goal.returns-in_err-line-clause-none

@@ -1,7 +1,6 @@
 use Rattle.std.proofs.Common.{◌≡◌, ◌∷◌, refl}
 use Rattle.std.proofs.lemmas.Result.{err_from_is_err_and}
-use Rattle.mc_protocol.specs.declared.lines.Separator.TheVariants.{Space}
-use Rattle.mc_protocol.specs.Lines.{words_of_text}
+use Rattle.mc_protocol.specs.{declared.lines.Separator.TheVariants.Space, Lines.words_of_text}
 use Rattle.mc_history.specs.StepText.{steps_line}
 use Rattle.mc_history.proofs.StepLists.{onward_of_list, list_of_onward}
 use Rattle.mc_history.proofs.step_text.read_text.Goals as goal

@@ -1,8 +1,7 @@
 use Rattle.std.proofs.Common.{◌++◌, ap}
 use Rattle.mc_protocol.specs.declared.actor.Actor.TheVariants as actor
 use Rattle.mc_image.specs.Image.{image_in}
-use Rattle.mc_image.proofs.ImageRoom.{written-fit}
-use Rattle.mc_image.proofs.WrittenImage.{image-written}
+use Rattle.mc_image.proofs.{ImageRoom.written-fit, WrittenImage.image-written}
 use Rattle.mc_image.proofs.image_writer.encode.Goals as goal
 
 pub push_templates-requires-clause-fit : goal.push_templates-requires-clause-fit

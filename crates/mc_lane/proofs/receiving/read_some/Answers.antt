@@ -1,5 +1,4 @@
-use Rattle.std.proofs.Common.{arith}
-use Rattle.std.proofs.lemmas.Grind.{common_steps}
+use Rattle.std.proofs.{Common.arith, lemmas.Grind.common_steps}
 use Rattle.mc_lane.proofs.Received.{Adds-end, Adds-bytes}
 use Rattle.mc_lane.proofs.receiving.read_some.Goals as goal
 

@@ -1,12 +1,9 @@
 use Rattle.std.proofs.Common.{◌↔◌, ◌≡◌, ◌<◌, ◌^◌, ℕ, List, IsTrue, map, subst, rules}
-use Rattle.std.specs.List.{All}
-use Rattle.std.specs.Prelude.{IfOk}
 use Rattle.std.proofs.lemmas.Result.{IfOk-weaker}
+use Rattle.std.specs.{List.All, Prelude.IfOk}
 use Rattle.mc_history.specs.Distinct.{AreDistinct}
 use Rattle.mc_timeline.proofs.TimelineOrder.{are_ordered}
-use Rattle.mc_linearize.specs.declared.explanation.TimelineMove.{TimelineMove}
-use Rattle.mc_linearize.specs.Claims.{ExplainsTimeline}
-use Rattle.mc_linearize.specs.Trials.{Tries, trial_of}
+use Rattle.mc_linearize.specs.{declared.explanation.TimelineMove.TimelineMove, Claims.ExplainsTimeline, Trials.Tries, Trials.trial_of}
 use Rattle.mc_linearize.proofs.Trying.{explains_from_tries, tries_from_explains}
 use Rattle.mc_linearize.proofs.confirm.confirm_timeline.Goals as goal
 

@@ -1,8 +1,7 @@
 use Rattle.std.proofs.Common.{◌≡◌, true, add-one, get_or, length, [], ap, ◌∙◌, sym}
-use Rattle.std.proofs.lemmas.List.{get_or_read}
+use Rattle.std.proofs.{lemmas.List.get_or_read, Common.drop}
 use Rattle.mc_linearize.specs.Standing.{may_queue_end, queue_left}
 use Rattle.mc_linearize.proofs.Lefts.{end_at, end_more}
-use Rattle.std.proofs.Common.{drop}
 use Rattle.mc_linearize.proofs.standing.may_all_end.Goals as goal
 
 pub returns-then-not-may_end : goal.returns-then-not-may_end

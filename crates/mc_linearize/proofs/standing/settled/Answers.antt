@@ -1,6 +1,6 @@
 use Rattle.std.proofs.Common.{◌≡◌, ◌∙◌, sym, Some, slice_get, arith}
-use Rattle.std.specs.Prelude.{slice_index_or}
 use Rattle.std.proofs.lemmas.Option.{slice_get-get_or}
+use Rattle.std.specs.Prelude.{slice_index_or}
 use Rattle.mc_timeline.specs.Timelines.{ClientNote}
 use Rattle.mc_linearize.proofs.Settling.{crosses, stops}
 use Rattle.mc_linearize.proofs.standing.settled.Goals as goal

@@ -1,7 +1,6 @@
 -- The word is read as a body exactly where it spells it.
 use Rattle.mc_model.specs.{Words.SpellsBody, Reading.body_in}
-use Rattle.mc_model.proofs.Readings.{IfOk-from_gives, IfErr-from_gives}
-use Rattle.mc_model.proofs.BodyWords.{body-spelled, body-read}
+use Rattle.mc_model.proofs.{Readings.IfOk-from_gives, Readings.IfErr-from_gives, BodyWords.body-spelled, BodyWords.body-read}
 use Rattle.mc_model.proofs.body.read_body.Goals as goal
 
 pub returns-clause-found : goal.returns-clause-found

@@ -1,11 +1,8 @@
 use Rattle.std.proofs.Common.{◌≡◌, ◌≢◌, ℕ, ◌<◌, true, Some, List, length, get_or, take, map-id, sym, ap, ◌∙◌}
 use Rattle.std.proofs.lemmas.{Option.slice_get-get_or, Iterator.Adapters.YieldsList-from_vec}
 use Rattle.std.proofs.lemmas.Iterator.Consumers.{YieldsList-turn, YieldsList-so_far}
-use Rattle.mc_model.specs.Types.{Actor, Sent, HistoryKind}
 use Rattle.mc_model.specs.declared.rules.HistoryKind.TheVariants.{OutOfMemory}
-use Rattle.mc_model.specs.Sections.{Sections}
-use Rattle.mc_model.specs.History.{is_history, fault_at}
-use Rattle.mc_model.specs.Next.{with_section, FailsAt}
+use Rattle.mc_model.specs.{Types.Actor, Types.Sent, Types.HistoryKind, Sections.Sections, History.is_history, History.fault_at, Next.with_section, Next.FailsAt}
 use Rattle.mc_model.proofs.history.push_all.Goals as goal
 
 -- the requests that were added, and the faulty one after them

@@ -1,6 +1,5 @@
 -- What the reply carries has values of its types, so the words spell it.
-use Rattle.std.proofs.Common.{arith}
-use Rattle.std.proofs.lemmas.Result.{on_ok_weaker}
+use Rattle.std.proofs.{Common.arith, lemmas.Result.on_ok_weaker}
 use Rattle.mc_model.proofs.PrintedWords.{printed_hit, printed_number}
 use Rattle.mc_model.proofs.print.print_reply_words.Goals as goal
 

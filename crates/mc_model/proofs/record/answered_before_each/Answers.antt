@@ -2,8 +2,8 @@ use Rattle.std.proofs.Common.{◌≡◌, ◌+◌, [], ◌∷◌, ◌++◌, lengt
 use Rattle.std.proofs.lemmas.List.{take_more}
 use Rattle.mc_model.specs.Notes.{replies_in, replied_by, begins, answered_before_each}
 use Rattle.mc_model.proofs.Noting.{answered_before-push, reply_count-push}
-use Rattle.mc_model.proofs.record.answered_before_each.Goals as goal
 use Rattle.mc_model.proofs.record.answered_before_each.Goals.{then-begins+in_ok-push, else-begins, then-replies, else-replies}
+use Rattle.mc_model.proofs.record.answered_before_each.Goals as goal
 
 pub counting-preserved : goal.counting-preserved
 counting-preserved c =

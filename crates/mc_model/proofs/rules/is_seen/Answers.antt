@@ -1,10 +1,9 @@
 -- Of a `cas` the earlier requests are asked, one by one.
 use Rattle.std.proofs.Common.{◌≡◌, Bool, true, false, not, refl, rules, tests}
-use Rattle.std.specs.List.{list_any}
 use Rattle.std.proofs.lemmas.{Iterator.YieldsList-from_slice, Iterator.Search.any_from_yields_List}
+use Rattle.std.specs.List.{list_any}
 use denote.Enum.Bare.{same_true}
-use Rattle.mc_protocol.specs.contracts.request.Verb.{the_type}
-use Rattle.mc_protocol.specs.declared.request.Verb.TheVariants.{Cas}
+use Rattle.mc_protocol.specs.{contracts.request.Verb.the_type, declared.request.Verb.TheVariants.Cas}
 use Rattle.mc_model.specs.History as rule
 use Rattle.mc_model.proofs.rules.is_seen.Goals as goal
 

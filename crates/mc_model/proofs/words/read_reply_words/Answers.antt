@@ -1,8 +1,7 @@
 -- The words are read as a reply exactly where they spell it.
 use Rattle.std.proofs.Common.{map}
 use Rattle.mc_model.specs.{Words.SpellsReply, Reading.reply_in}
-use Rattle.mc_model.proofs.Readings.{IfOk-from_gives, IfErr-from_gives}
-use Rattle.mc_model.proofs.ReplyWords.{reply-spelled, reply-read}
+use Rattle.mc_model.proofs.{Readings.IfOk-from_gives, Readings.IfErr-from_gives, ReplyWords.reply-spelled, ReplyWords.reply-read}
 use Rattle.mc_model.proofs.words.read_reply_words.Goals as goal
 
 pub returns-clause-found : goal.returns-clause-found

@@ -1,8 +1,7 @@
 -- The words are read as a request exactly where they spell it.
 use Rattle.std.proofs.Common.{map}
 use Rattle.mc_model.specs.{Words.SpellsRequest, Reading.request_in}
-use Rattle.mc_model.proofs.Readings.{IfOk-from_gives, IfErr-from_gives}
-use Rattle.mc_model.proofs.RequestWords.{request-spelled, request-read}
+use Rattle.mc_model.proofs.{Readings.IfOk-from_gives, Readings.IfErr-from_gives, RequestWords.request-spelled, RequestWords.request-read}
 use Rattle.mc_model.proofs.words.read_request_words.Goals as goal
 
 pub returns-clause-found : goal.returns-clause-found

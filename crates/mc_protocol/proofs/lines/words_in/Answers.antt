@@ -1,6 +1,5 @@
-use Rattle.std.proofs.Common.{rules}
 use Rattle.std.proofs.lemmas.Iterator.Consumers.{YieldsList-at, YieldsList-from_filter, map_from_collect}
-use Rattle.std.proofs.lemmas.Iterator.Splits.{YieldsList-from_slice_split}
+use Rattle.std.proofs.{Common.rules, lemmas.Iterator.Splits.YieldsList-from_slice_split}
 use Rattle.std.specs.Prelude.{not, length, ◌==◌}
 use Rattle.mc_protocol.specs.Lines as spec
 use Rattle.mc_protocol.proofs.lines.words_in.Goals as goal

@@ -1,6 +1,5 @@
 use Rattle.std.proofs.Common.{[], ap, ◌∙◌, arith}
-use Rattle.mc_reader.specs.AskParts.{said_of}
-use Rattle.mc_reader.specs.Asks.{ask_of}
+use Rattle.mc_reader.specs.{AskParts.said_of, Asks.ask_of}
 use Rattle.mc_reader.proofs.AskSteps.{said_whole, chunk_step, skip_step}
 use Rattle.mc_reader.proofs.ask_stage.read_after_line.Goals as goal
 

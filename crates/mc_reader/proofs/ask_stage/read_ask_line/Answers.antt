@@ -1,14 +1,7 @@
 use Rattle.std.proofs.Common.{◌≡◌, ◌+◌, ◌-◌, [], ◌∷◌, ◌++◌, length, take, drop, sym, ap, ◌∙◌, append_assoc}
 use Rattle.std.proofs.lemmas.List.{take_rest}
-use Rattle.mc_reader.specs.AskEnds.{AskEnds}
-use Rattle.mc_reader.specs.AskLines.{line_says}
-use Rattle.mc_reader.specs.AskParts.{said_of}
-use Rattle.mc_reader.specs.AskStages.{IsAskStageAt}
-use Rattle.mc_reader.specs.Gathered.{IsGathered}
-use Rattle.mc_reader.specs.Lines.{LF}
-use Rattle.mc_reader.proofs.AskSteps.{ask_step_after}
-use Rattle.mc_reader.proofs.Blocks.{line_in}
-use Rattle.mc_reader.proofs.Gathers.{line_is}
+use Rattle.mc_reader.specs.{AskEnds.AskEnds, AskLines.line_says, AskParts.said_of, AskStages.IsAskStageAt, Gathered.IsGathered, Lines.LF}
+use Rattle.mc_reader.proofs.{AskSteps.ask_step_after, Blocks.line_in, Gathers.line_is}
 use Rattle.mc_reader.proofs.ask_stage.read_ask_line.Goals as goal
 
 pub returns-in-Ok-Some : goal.returns-in-Ok-Some

@@ -1,6 +1,5 @@
 use Rattle.std.proofs.Common.{Ok}
-use Rattle.mc_reader.specs.AskEnds.{ChunkEnds}
-use Rattle.mc_reader.specs.AskStages.{IsChunkAt}
+use Rattle.mc_reader.specs.{AskEnds.ChunkEnds, AskStages.IsChunkAt}
 use Rattle.mc_reader.proofs.AskSteps.{ask_step_after}
 use Rattle.mc_reader.proofs.ask_stage.read_body.Goals as goal
 

@@ -1,10 +1,7 @@
 use Rattle.std.proofs.Common.{◌-◌, length, take, [], ◌∷◌, ◌++◌, drop, get_or, refl, sym, ap, ◌∙◌, Ok}
 use Rattle.std.proofs.lemmas.List.{drop_more, take_rest}
-use Rattle.mc_reader.specs.AskEnds.{ChunkEnds}
-use Rattle.mc_reader.specs.AskStages.{IsChunkAt}
-use Rattle.mc_reader.specs.Lines.{CR}
-use Rattle.mc_reader.proofs.AskSteps.{stray_cr, ask_step_after}
-use Rattle.mc_reader.proofs.Blocks.{not_byte}
+use Rattle.mc_reader.specs.{AskEnds.ChunkEnds, AskStages.IsChunkAt, Lines.CR}
+use Rattle.mc_reader.proofs.{AskSteps.stray_cr, AskSteps.ask_step_after, Blocks.not_byte}
 use Rattle.mc_reader.proofs.ask_stage.read_cr.Goals as goal
 
 pub returns-then-byte-ne13 : goal.returns-then-byte-ne13

@@ -1,8 +1,7 @@
 use Rattle.std.proofs.Common.{◌-◌, length, take, ◌∷◌, drop, get_or, sym, ap, ◌∙◌}
 use Rattle.std.proofs.lemmas.List.{drop_more, take_rest}
 use Rattle.mc_reader.specs.Lines.{LF}
-use Rattle.mc_reader.proofs.AskSteps.{stray_lf, chunk_whole}
-use Rattle.mc_reader.proofs.Blocks.{not_byte}
+use Rattle.mc_reader.proofs.{AskSteps.stray_lf, AskSteps.chunk_whole, Blocks.not_byte}
 use Rattle.mc_reader.proofs.ask_stage.read_lf.Goals as goal
 
 pub returns-then-byte-ne10 : goal.returns-then-byte-ne10

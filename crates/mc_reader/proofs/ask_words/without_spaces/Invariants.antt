@@ -1,6 +1,5 @@
 use Rattle.std.proofs.Common.{◌≡◌, length}
-use Rattle.mc_protocol.specs.Lines.{words_of}
-use Rattle.mc_protocol.specs.declared.lines.Separator.TheVariants.{Space}
+use Rattle.mc_protocol.specs.{Lines.words_of, declared.lines.Separator.TheVariants.Space}
 use Rattle.mc_reader.proofs.ask_words.without_spaces.Given as goal
 
 abbrev pub invariant-spaces : goal.invariant-spaces

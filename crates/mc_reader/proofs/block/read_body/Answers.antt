@@ -1,5 +1,4 @@
-use Rattle.mc_reader.specs.Block.{IsBlockOf}
-use Rattle.mc_reader.specs.Replies.{BlockEnds}
+use Rattle.mc_reader.specs.{Block.IsBlockOf, Replies.BlockEnds}
 use Rattle.mc_reader.proofs.StepLemmas.{step_after}
 use Rattle.mc_reader.proofs.block.read_body.Goals as goal
 

@@ -1,10 +1,7 @@
 use Rattle.std.proofs.Common.{◌-◌, length, take, [], ◌∷◌, ◌++◌, drop, get_or, refl, sym, ap, ◌∙◌}
 use Rattle.std.proofs.lemmas.List.{drop_more, take_rest}
-use Rattle.mc_reader.specs.Block.{IsBlockOf}
-use Rattle.mc_reader.specs.Lines.{CR}
-use Rattle.mc_reader.specs.Replies.{BlockEnds}
-use Rattle.mc_reader.proofs.Blocks.{stray_cr, not_byte}
-use Rattle.mc_reader.proofs.StepLemmas.{step_after}
+use Rattle.mc_reader.specs.{Block.IsBlockOf, Lines.CR, Replies.BlockEnds}
+use Rattle.mc_reader.proofs.{Blocks.stray_cr, Blocks.not_byte, StepLemmas.step_after}
 use Rattle.mc_reader.proofs.block.read_cr.Goals as goal
 
 pub returns-then-byte-ne13 : goal.returns-then-byte-ne13

@@ -1,12 +1,7 @@
 use Rattle.std.proofs.Common.{◌≡◌, ◌+◌, ◌-◌, ◌∷◌, ◌++◌, length, take, drop, ap, ◌∙◌, subst, arith, length-drop, Ok}
 use Rattle.std.proofs.lemmas.Result.{err_from_is_err_and}
-use Rattle.mc_reader.specs.Gathered.{IsGathered}
-use Rattle.mc_reader.specs.Lines.{CR, LF, end_says}
-use Rattle.mc_reader.specs.Replies.{BlockEnds, hit_of}
-use Rattle.mc_reader.specs.Steps.{EndsAt}
-use Rattle.mc_reader.proofs.Blocks.{end_is, last_ends}
-use Rattle.mc_reader.proofs.Gathers.{line_is}
-use Rattle.mc_reader.proofs.StepLemmas.{last_gather_fault, last_line_fault}
+use Rattle.mc_reader.specs.{Gathered.IsGathered, Lines.CR, Lines.LF, Lines.end_says, Replies.BlockEnds, Replies.hit_of, Steps.EndsAt}
+use Rattle.mc_reader.proofs.{Blocks.end_is, Blocks.last_ends, Gathers.line_is, StepLemmas.last_gather_fault, StepLemmas.last_line_fault}
 use Rattle.mc_reader.proofs.block.read_last_line.Goals as goal
 
 pub returns-in_err-at : goal.returns-in_err-at

@@ -1,10 +1,7 @@
 use Rattle.std.proofs.Common.{◌-◌, length, take, [], ◌∷◌, ◌++◌, drop, get_or, sym, ap, ◌∙◌, append_assoc}
 use Rattle.std.proofs.lemmas.List.{drop_more, take_rest}
-use Rattle.mc_reader.specs.Block.{IsBlockOf}
-use Rattle.mc_reader.specs.Lines.{CR, LF}
-use Rattle.mc_reader.specs.Replies.{BlockEnds}
-use Rattle.mc_reader.proofs.Blocks.{stray_lf, not_byte}
-use Rattle.mc_reader.proofs.StepLemmas.{step_after}
+use Rattle.mc_reader.specs.{Block.IsBlockOf, Lines.CR, Lines.LF, Replies.BlockEnds}
+use Rattle.mc_reader.proofs.{Blocks.stray_lf, Blocks.not_byte, StepLemmas.step_after}
 use Rattle.mc_reader.proofs.block.read_lf.Goals as goal
 
 pub returns-then-byte-ne10 : goal.returns-then-byte-ne10

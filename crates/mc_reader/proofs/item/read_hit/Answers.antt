@@ -1,9 +1,8 @@
 use Rattle.std.proofs.Common.{sym, ap, ◌∙◌}
-use Rattle.mc_reader.specs.Items.{cas_in}
-use Rattle.mc_reader.specs.Words.{hit_says}
+use Rattle.mc_reader.specs.{Items.cas_in, Words.hit_says}
 use Rattle.mc_reader.proofs.ItemLemmas.{hit_is, another_value, another_count, value_differs, value_same, counts_same, counts_differ}
-use Rattle.mc_reader.proofs.item.read_hit.Goals as goal
 use Rattle.mc_reader.proofs.item.read_hit.Goals.{then-ne-via-then-ne, then-ne-via-else-ne+then-is_some-shows_number}
+use Rattle.mc_reader.proofs.item.read_hit.Goals as goal
 
 pub returns-then-ne : goal.returns-then-ne
 returns-then-ne c =

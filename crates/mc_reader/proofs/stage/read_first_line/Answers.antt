@@ -1,14 +1,9 @@
 use Rattle.std.proofs.Common.{◌≡◌, ◌+◌, ◌-◌, [], ◌++◌, length, take, drop, sym, subst, arith, length-drop, Ok, Err}
-use Rattle.std.proofs.lemmas.List.{take_rest}
-use Rattle.std.proofs.lemmas.Result.{err_from_is_err_and}
-use Rattle.mc_reader.specs.Block.{IsBlockOf}
-use Rattle.mc_reader.specs.Gathered.{IsGathered}
-use Rattle.mc_reader.specs.Replies.{BlockEnds, Ends}
-use Rattle.mc_reader.specs.Steps.{EndsAt, IsStep}
+use Rattle.std.proofs.{lemmas.List.take_rest, lemmas.Result.err_from_is_err_and}
 use Rattle.mc_reader.specs.declared.said.Said.TheVariants.{Hit, Whole}
-use Rattle.mc_reader.proofs.FirstLines.{first_ends}
-use Rattle.mc_reader.proofs.Gathers.{line_is}
+use Rattle.mc_reader.specs.{Block.IsBlockOf, Gathered.IsGathered, Replies.BlockEnds, Replies.Ends, Steps.EndsAt, Steps.IsStep}
 use Rattle.mc_reader.proofs.StepLemmas.{first_gather_fault, first_line_fault, hit_more, hit_done, hit_fault, block_step, says_at}
+use Rattle.mc_reader.proofs.{FirstLines.first_ends, Gathers.line_is}
 use Rattle.mc_reader.proofs.stage.read_first_line.Goals as goal
 
 pub returns-in_err-at : goal.returns-in_err-at

@@ -1,7 +1,6 @@
 use Rattle.std.proofs.Common.{List, ◌+◌, suc, ◌≡◌, ◌∷◌, ◌++◌, [], ap, sym, subst, ◌∙◌, take, drop}
+use Rattle.std.proofs.{Math.Seq.drop-cons, lemmas.List.take_more, lemmas.List.take-append-drop}
 use Rattle.std.specs.Prelude.{Some, None}
-use Rattle.std.proofs.Math.Seq.{drop-cons}
-use Rattle.std.proofs.lemmas.List.{take_more, take-append-drop}
 use Rattle.mc_model.specs.declared.sent.Sent.{Sent}
 use Rattle.mc_recorded.specs.Fronts.{CountsReply, CountsReplies}
 use Rattle.mc_recorded.proofs.InOrder.{counted_more, missing}

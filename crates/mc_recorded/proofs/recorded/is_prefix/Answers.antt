@@ -1,6 +1,4 @@
-use Rattle.std.proofs.Common.{length, drop}
-use Rattle.std.proofs.lemmas.Bool.Decides.{Decides-eqb}
-use Rattle.std.proofs.lemmas.Slice.Eq.{starts_is}
+use Rattle.std.proofs.{Common.length, Common.drop, lemmas.Bool.Decides.Decides-eqb, lemmas.Slice.Eq.starts_is}
 use Rattle.mc_recorded.proofs.recorded.is_prefix.Goals as goal
 
 pub returns : goal.returns

@@ -1,6 +1,5 @@
 use Rattle.std.proofs.Common.{subst, sym}
-use Rattle.mc_recorded.specs.Fronts.{CountsReplies}
-use Rattle.mc_recorded.specs.Recorded.{StandAtFront}
+use Rattle.mc_recorded.specs.{Fronts.CountsReplies, Recorded.StandAtFront}
 use Rattle.mc_recorded.proofs.IsRecorded.{all_answered}
 use Rattle.mc_recorded.proofs.recorded.is_recorded.Goals as goal
 

@@ -1,7 +1,7 @@
 use Rattle.mc_run.specs.Running.{none}
 use Rattle.mc_run.proofs.Grown.{grew_twice}
-use Rattle.mc_run.proofs.section.run_section.Goals as goal
 use Rattle.mc_run.proofs.section.run_section.Goals.{else-calls-test, then-calls-test+in_default, then-calls-test+in-Some+then-not-run_call}
+use Rattle.mc_run.proofs.section.run_section.Goals as goal
 
 pub calls-init : goal.calls-init
 calls-init g c = none

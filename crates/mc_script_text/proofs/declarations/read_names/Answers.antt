@@ -1,6 +1,5 @@
 use Rattle.std.proofs.Common.{◌≡◌, ◌≢◌, map, length, arith, rules}
-use Rattle.std.proofs.lemmas.Bool.Decides.{nat_tests}
-use Rattle.std.proofs.lemmas.Grind.{common_steps}
+use Rattle.std.proofs.{lemmas.Bool.Decides.nat_tests, lemmas.Grind.common_steps}
 use Rattle.mc_script_text.proofs.NewNames.{names_stopped, names_some, declared_push}
 use Rattle.mc_script_text.proofs.declarations.read_names.Goals as goal
 

@@ -1,6 +1,6 @@
 use Rattle.std.proofs.Common.{◌≡◌, Some, [], map, sym, ap, ◌∙◌}
-use Rattle.std.specs.List.{list_any}
 use Rattle.std.proofs.lemmas.List.{drop_all}
+use Rattle.std.specs.List.{list_any}
 use Rattle.mc_script_text.specs.Reading.{marks_in, binds}
 use Rattle.mc_script_text.proofs.MarkWords.{marks-apart}
 use Rattle.mc_script_text.proofs.marks.read_marks.Goals as goal

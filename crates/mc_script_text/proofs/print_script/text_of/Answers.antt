@@ -1,5 +1,4 @@
-use Rattle.mc_script_text.proofs.PrintedScripts.{printed_scripts}
-use Rattle.mc_script_text.proofs.PrintedTexts.{script_text-made}
+use Rattle.mc_script_text.proofs.{PrintedScripts.printed_scripts, PrintedTexts.script_text-made}
 use Rattle.mc_script_text.proofs.print_script.text_of.Goals as goal
 
 pub returns-clause-text : goal.returns-clause-text

@@ -1,5 +1,4 @@
-use Rattle.std.proofs.Common.{ℕ, List, Bor, sym}
-use Rattle.std.proofs.lemmas.List.{take_rest, drop-map}
+use Rattle.std.proofs.{Common.ℕ, Common.List, Common.Bor, Common.sym, lemmas.List.take_rest, lemmas.List.drop-map}
 use Rattle.mc_script_text.proofs.read_entry.words_after.Goals as goal
 
 pub returns-then-count-words : goal.returns-then-count-words

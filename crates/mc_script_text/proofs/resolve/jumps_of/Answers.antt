@@ -1,8 +1,7 @@
 use Rattle.std.proofs.Common.{◌≡◌, ◌≢◌, None, sym, ap, ◌∙◌, rules}
 use Rattle.mc_protocol.specs.Words.{all_classes}
 use Rattle.mc_script_text.specs.declared.fault.ScriptKind.TheVariants as kind
-use Rattle.mc_script_text.specs.Steps.{jumps_on}
-use Rattle.mc_script_text.specs.Reading.{targets_in}
+use Rattle.mc_script_text.specs.{Steps.jumps_on, Reading.targets_in}
 use Rattle.mc_script_text.proofs.JumpLists.{jumps-found, jumps-missing}
 use Rattle.mc_script_text.proofs.resolve.jumps_of.Goals as goal
 

@@ -1,6 +1,5 @@
 use Rattle.std.proofs.Common.{◌≡◌, Some, length, sym, ap, ◌∙◌, rules}
-use Rattle.mc_script_text.specs.Steps.{step_in}
-use Rattle.mc_script_text.specs.Reading.{is_label}
+use Rattle.mc_script_text.specs.{Steps.step_in, Reading.is_label}
 use Rattle.mc_script_text.proofs.Resolving.{step-pushed, label-passed}
 use Rattle.mc_script_text.proofs.resolve.steps_of.Goals.{then-not-is_label+in-Ok+in_ok-push-in-Ok, else-not-is_label}
 use Rattle.mc_script_text.proofs.resolve.steps_of.Goals as goal

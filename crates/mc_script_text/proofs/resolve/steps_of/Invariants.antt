@@ -1,6 +1,5 @@
 use Rattle.std.proofs.Common.{◌≡◌, length, drop}
-use Rattle.mc_script_text.specs.Reading.{onto}
-use Rattle.mc_script_text.specs.Steps.{steps_from}
+use Rattle.mc_script_text.specs.{Reading.onto, Steps.steps_from}
 use Rattle.mc_script_text.proofs.resolve.steps_of.Given as goal
 
 abbrev pub invariant-entries : goal.invariant-entries

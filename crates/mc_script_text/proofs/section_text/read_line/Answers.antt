@@ -1,8 +1,7 @@
 use Rattle.std.proofs.Common.{◌≡◌, ◌≢◌, Some, None, cond, not, sym, ap, ◌∙◌, rules}
 use Rattle.mc_script.specs.Versions.{steps_limit}
 use Rattle.mc_script_text.specs.declared.fault.ScriptKind.TheVariants as kind
-use Rattle.mc_script_text.specs.Reading.{entry_in}
-use Rattle.mc_script_text.specs.Reading.{following}
+use Rattle.mc_script_text.specs.{Reading.entry_in, Reading.following}
 use Rattle.mc_script_text.proofs.Labelled.{step_following, step_adds, label_following, label_unread}
 use Rattle.mc_script_text.proofs.section_text.read_line.Goals as goal
 

@@ -1,5 +1,4 @@
-use Rattle.mc_script_text.proofs.Formed.{script-formed}
-use Rattle.mc_script_text.proofs.WholeScript.{script_spelled}
+use Rattle.mc_script_text.proofs.{Formed.script-formed, WholeScript.script_spelled}
 use Rattle.mc_script_text.proofs.text.read_all.Goals as goal
 
 pub resolve_all-requires : goal.resolve_all-requires

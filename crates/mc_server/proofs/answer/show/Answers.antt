@@ -1,7 +1,6 @@
 use Rattle.std.proofs.Common.{[], refl, sym}
 use Rattle.mc_server.specs.Answers.{shown}
-use Rattle.mc_server.proofs.Putting.{IsPut-none, put_with_room}
-use Rattle.mc_server.proofs.Shown.{shown_none}
+use Rattle.mc_server.proofs.{Putting.IsPut-none, Putting.put_with_room, Shown.shown_none}
 use Rattle.mc_server.proofs.answer.show.Goals as goal
 
 pub returns : goal.returns

@@ -1,12 +1,9 @@
 use Rattle.std.proofs.Common.{[], ℕ, ◌++◌, List, map-id, subst, sym, ap, ◌∙◌, ◌≡◌}
-use Rattle.std.proofs.lemmas.Iterator.Adapters.{YieldsList-from_vec}
-use Rattle.std.proofs.lemmas.Iterator.Consumers.{YieldsList-so_far, YieldsList-end}
+use Rattle.std.proofs.{lemmas.Iterator.Adapters.YieldsList-from_vec, lemmas.Iterator.Consumers.YieldsList-so_far, lemmas.Iterator.Consumers.YieldsList-end}
 use Rattle.mc_lane.specs.Streams.{no_counts}
 use Rattle.mc_reader.specs.Asks.{Many}
-use Rattle.mc_server.specs.Answering.{Is}
-use Rattle.mc_server.specs.Answers.{MayShow, MayShowAll, MayWrite, MayBegin, end_line}
-use Rattle.mc_server.proofs.Putting.{can_go_on, IsPut-twice, puts_err, puts_after}
-use Rattle.mc_server.proofs.Shown.{shown_more, shown_front}
+use Rattle.mc_server.specs.{Answering.Is, Answers.MayShow, Answers.MayShowAll, Answers.MayWrite, Answers.MayBegin, Answers.end_line}
+use Rattle.mc_server.proofs.{Putting.can_go_on, Putting.IsPut-twice, Putting.puts_err, Putting.puts_after, Shown.shown_more, Shown.shown_front}
 use Rattle.mc_server.proofs.answer.show_all.Goals as goal
 
 pub keys-preserved : goal.keys-preserved

@@ -1,7 +1,6 @@
 use Rattle.std.proofs.Common.{List, ℕ}
 use Rattle.mc_lane.specs.Streams.{no_counts, CanFail}
-use Rattle.mc_server.specs.Answers.{MayShowAll}
-use Rattle.mc_server.specs.Puts.{IsPut}
+use Rattle.mc_server.specs.{Answers.MayShowAll, Puts.IsPut}
 use Rattle.mc_server.proofs.answer.show_all.Given as goal
 
 -- what was shown so far

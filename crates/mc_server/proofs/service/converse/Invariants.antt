@@ -1,7 +1,6 @@
 use Rattle.std.proofs.Common.{◌≡◌, ◌-◌, ◌<◌, ◌≤◌, [], vec_len}
 use Rattle.mc_lane.specs.Streams.{CanFail}
-use Rattle.mc_server.specs.Conversing.{IsServedSoFar}
-use Rattle.mc_server.specs.declared.limits.TheConstants.{RECEIVED_LIMIT}
+use Rattle.mc_server.specs.{Conversing.IsServedSoFar, declared.limits.TheConstants.RECEIVED_LIMIT}
 use Rattle.mc_server.proofs.service.converse.Given as goal
 
 -- what was read and served so far

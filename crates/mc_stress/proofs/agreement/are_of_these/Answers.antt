@@ -1,7 +1,6 @@
 use Rattle.std.proofs.Common.{sym, subst, ◌∙◌}
+use Rattle.std.proofs.{lemmas.List.take_all, lemmas.List.Elements.All-more}
 use Rattle.std.specs.List.{All}
-use Rattle.std.proofs.lemmas.List.{take_all}
-use Rattle.std.proofs.lemmas.List.Elements.{All-more}
 use Rattle.mc_stress.specs.Agreement.{IsOfOne}
 use Rattle.mc_stress.proofs.agreement.are_of_these.Goals as goal
 

@@ -1,5 +1,4 @@
-use Rattle.std.specs.Prelude.{take}
-use Rattle.std.specs.List.{All}
+use Rattle.std.specs.{Prelude.take, List.All}
 use Rattle.mc_stress.specs.Agreement.{IsOfOne}
 use Rattle.mc_stress.proofs.agreement.are_of_these.Given as goal
 

@@ -1,7 +1,6 @@
 use Rattle.std.proofs.Common.{◌≡◌, subst, ◌∙◌, List}
+use Rattle.std.proofs.{lemmas.List.take_all, lemmas.List.Elements.All-more}
 use Rattle.std.specs.List.{All}
-use Rattle.std.proofs.lemmas.List.{take_all}
-use Rattle.std.proofs.lemmas.List.Elements.{All-more}
 use Rattle.mc_model.specs.declared.sent.Sent.{Sent}
 use Rattle.mc_recorded.specs.Recorded.{IsRecordedBy}
 use Rattle.mc_stress.specs.Agreement.{IsOver, IsRecorded, sent_by}

@@ -1,6 +1,6 @@
 use Rattle.std.proofs.Common.{◌≡◌, ◌++◌, ◌<◌, ◌+◌, List, ℕ, ap, sym, ◌∙◌, take, length, get_or}
-use Rattle.std.specs.List.{flat_map}
 use Rattle.std.proofs.lemmas.List.{flat_map_more, take_more}
+use Rattle.std.specs.List.{flat_map}
 use Rattle.mc_protocol.specs.declared.fault.Fault.{Fault}
 use Rattle.mc_stress.specs.Evidence.{failed_line}
 use Rattle.mc_stress.proofs.evidence.print_failed.Goals as goal

@@ -1,11 +1,7 @@
 use Rattle.std.proofs.Common.{◌≡◌, ℕ, true, Result, List, Option, Some, None}
 use Rattle.std.specs.Prelude.{is_none, MatchOption}
-use Rattle.mc_protocol.specs.Lines.{Word}
-use Rattle.mc_protocol.specs.declared.fault.Fault.{Fault}
-use Rattle.mc_protocol.specs.declared.reply.Reply.{Reply}
-use Rattle.mc_protocol.specs.declared.request.Verb.{Verb}
-use Rattle.mc_lane.specs.Lanes.{LaneRecord, Exchanges, IsRefused, open_stream}
-use Rattle.mc_lane.specs.Streams.{StreamState}
+use Rattle.mc_protocol.specs.{Lines.Word, declared.fault.Fault.Fault, declared.reply.Reply.Reply, declared.request.Verb.Verb}
+use Rattle.mc_lane.specs.{Lanes.LaneRecord, Lanes.Exchanges, Lanes.IsRefused, Lanes.open_stream, Streams.StreamState}
 use Rattle.mc_stress.proofs.laws.closed_lanes_send_nothing.Goals as goal
 
 by_stream : (verb : Verb) (key : Word) (request : List ℕ) (old new : LaneRecord) (result : Result Reply Fault) (stream : Option StreamState)

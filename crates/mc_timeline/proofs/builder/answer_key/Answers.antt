@@ -1,8 +1,6 @@
 use Rattle.std.proofs.Common.{refl, sym, ap, ◌∙◌}
-use Rattle.std.specs.Map.{set_value}
-use Rattle.std.specs.Str.{bytes_eq}
-use Rattle.std.proofs.lemmas.Map.Steps.{set_value_same}
-use Rattle.std.proofs.lemmas.Result.{on_err_weaker}
+use Rattle.std.proofs.{lemmas.Map.Steps.set_value_same, lemmas.Result.on_err_weaker}
+use Rattle.std.specs.{Map.set_value, Str.bytes_eq}
 use Rattle.mc_timeline.proofs.Replied.{answers_by, on_ok_both}
 use Rattle.mc_timeline.proofs.builder.answer_key.Goals as goal
 

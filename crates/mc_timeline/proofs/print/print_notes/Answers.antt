@@ -1,8 +1,6 @@
 use Rattle.mc_history.specs.PrintedHistory.{line_text}
 use Rattle.mc_history.proofs.PrintedLines.{printed_more}
-use Rattle.mc_timeline.specs.Timelines.{ClientNote}
-use Rattle.mc_timeline.specs.TimelineText.{client_note_words}
-use Rattle.mc_timeline.specs.PrintedNotes.{MaySpellItself}
+use Rattle.mc_timeline.specs.{Timelines.ClientNote, TimelineText.client_note_words, PrintedNotes.MaySpellItself}
 use Rattle.mc_timeline.proofs.print.print_notes.Goals as goal
 
 pub noting-preserved : goal.noting-preserved

@@ -1,8 +1,7 @@
 use Rattle.std.proofs.Common.{◌≡◌, subst}
 use Rattle.std.specs.List.{All}
 use Rattle.mc_history.proofs.PrintedLines.{appended, on_ok_from}
-use Rattle.mc_timeline.specs.TimelineText.{timeline_text}
-use Rattle.mc_timeline.specs.PrintedNotes.{MaySpellItself}
+use Rattle.mc_timeline.specs.{TimelineText.timeline_text, PrintedNotes.MaySpellItself}
 use Rattle.mc_timeline.proofs.PrintedNotes.{text_parts, printed_timeline}
 use Rattle.mc_timeline.proofs.print.print_timeline.Goals as goal
 

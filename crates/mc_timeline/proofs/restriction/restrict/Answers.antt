@@ -1,10 +1,8 @@
 use Rattle.std.proofs.Common.{◌≡◌, ◌∙◌, ◌++◌, [], drop, subst, sym}
 use Rattle.std.proofs.lemmas.List.{drop_all}
-use Rattle.mc_timeline.specs.Restrictions.{HaveKey, waiting_in}
-use Rattle.mc_timeline.specs.Rules.{IsTimeline}
 use Rattle.mc_timeline.specs.Timelines.{operations_of, restricted, restricted_after}
-use Rattle.mc_timeline.proofs.RestrictedNotes.{none_wait, all_kept, have_key}
-use Rattle.mc_timeline.proofs.RestrictedRules.{are_timelines}
+use Rattle.mc_timeline.specs.{Restrictions.HaveKey, Restrictions.waiting_in, Rules.IsTimeline}
+use Rattle.mc_timeline.proofs.{RestrictedNotes.none_wait, RestrictedNotes.all_kept, RestrictedNotes.have_key, RestrictedRules.are_timelines}
 use Rattle.mc_timeline.proofs.restriction.restrict.Goals as goal
 
 pub notes-init : goal.notes-init

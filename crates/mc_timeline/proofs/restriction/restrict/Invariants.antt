@@ -1,6 +1,5 @@
 use Rattle.std.proofs.Common.{◌≡◌, ◌++◌, drop}
-use Rattle.mc_timeline.specs.Timelines.{restricted, restricted_after}
-use Rattle.mc_timeline.specs.Restrictions.{waiting_in}
+use Rattle.mc_timeline.specs.{Timelines.restricted, Timelines.restricted_after, Restrictions.waiting_in}
 use Rattle.mc_timeline.proofs.restriction.restrict.Given as goal
 
 -- what was kept, and what is kept of the other notes, is all that is kept

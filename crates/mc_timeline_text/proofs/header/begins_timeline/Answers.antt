@@ -1,6 +1,5 @@
 use Rattle.std.proofs.Common.{◌≡◌, ◌∷◌, ap, rules, sym, ◌∙◌}
-use Rattle.mc_protocol.specs.declared.lines.Separator.TheVariants.{Space}
-use Rattle.mc_protocol.specs.Lines.{words_of_text}
+use Rattle.mc_protocol.specs.{declared.lines.Separator.TheVariants.Space, Lines.words_of_text}
 use Rattle.mc_protocol.proofs.FirstItems.{head_is}
 use Rattle.mc_timeline_text.proofs.header.begins_timeline.Goals as goal
 

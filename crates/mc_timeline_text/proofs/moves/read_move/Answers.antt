@@ -1,5 +1,4 @@
-use Rattle.std.proofs.Common.{decimal}
-use Rattle.std.proofs.lemmas.Result.{err_from_is_err_and}
+use Rattle.std.proofs.{Common.decimal, lemmas.Result.err_from_is_err_and}
 use Rattle.mc_timeline_text.proofs.moves.read_move.Goals as goal
 
 pub returns-in_err-number-clause-none : goal.returns-in_err-number-clause-none

@@ -2,9 +2,8 @@ use Rattle.std.proofs.Common.{◌≡◌, inl, inr, sym, ◌∙◌}
 use Rattle.std.proofs.lemmas.Result.{err_from_is_err_and}
 use Rattle.mc_history.specs.HistoryText.{end_line, explain_line}
 use Rattle.mc_history.proofs.Reading.{read_on, read_all, stops, stops_at, ended}
-use Rattle.mc_timeline_text.proofs.ClientLines.{note_from, no_note_from}
-use Rattle.mc_timeline_text.proofs.TailLines.{no_tail_at, note_is_not_last}
 use Rattle.mc_timeline_text.proofs.TextLines.{notes_are_readable, notes_read}
+use Rattle.mc_timeline_text.proofs.{ClientLines.note_from, ClientLines.no_note_from, TailLines.no_tail_at, TailLines.note_is_not_last}
 use Rattle.mc_timeline_text.proofs.notes.read_notes.Goals as goal
 
 pub returns-in_err-line-clause-none : goal.returns-in_err-line-clause-none

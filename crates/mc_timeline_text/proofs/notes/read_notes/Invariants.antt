@@ -1,8 +1,7 @@
 use Rattle.std.proofs.Common.{◌↔◌, length}
 use Rattle.mc_history.specs.Series.{Series}
 use Rattle.mc_timeline.specs.Rules.{IsTimeline}
-use Rattle.mc_timeline_text.specs.TimelineTexts.{Spelled}
-use Rattle.mc_timeline_text.specs.TimelineParts.{notes, AfterNotes, SpellsNotes}
+use Rattle.mc_timeline_text.specs.{TimelineTexts.Spelled, TimelineParts.notes, TimelineParts.AfterNotes, TimelineParts.SpellsNotes}
 use Rattle.mc_timeline_text.proofs.notes.read_notes.Given as goal
 
 abbrev pub invariant-noting : goal.invariant-noting

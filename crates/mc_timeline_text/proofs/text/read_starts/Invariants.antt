@@ -1,6 +1,5 @@
 use Rattle.std.proofs.Common.{◌↔◌, length}
-use Rattle.mc_history.specs.Parts.{starts}
-use Rattle.mc_history.specs.Series.{Series}
+use Rattle.mc_history.specs.{Parts.starts, Series.Series}
 use Rattle.mc_linearize.specs.Claims.{TimelineClaim}
 use Rattle.mc_timeline_text.specs.TimelineParts.{AfterStarts, SpellsStarts}
 use Rattle.mc_timeline_text.proofs.text.read_starts.Given as goal

@@ -1,6 +1,5 @@
 use Rattle.std.proofs.Common.{List, [], sym, subst, take}
-use Rattle.mc_timeline.specs.Rules.{IsTimeline}
-use Rattle.mc_timeline.specs.Timelines.{ClientNote}
+use Rattle.mc_timeline.specs.{Rules.IsTimeline, Timelines.ClientNote}
 use Rattle.mc_timeline_why.proofs.Fronts.{kept_front}
 use Rattle.mc_timeline_why.proofs.cutting.cut_timeline.Goals as goal
 

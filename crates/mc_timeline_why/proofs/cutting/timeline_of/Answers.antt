@@ -1,7 +1,6 @@
 use Rattle.std.proofs.Common.{◌≡◌, None, Some, List, [], ap, subst, sym, take, ◌∙◌}
 use Rattle.mc_model.specs.declared.note.Note.{Note}
-use Rattle.mc_timeline.specs.Rules.{fault_of}
-use Rattle.mc_timeline.specs.Timelines.{ClientNote}
+use Rattle.mc_timeline.specs.{Rules.fault_of, Timelines.ClientNote}
 use Rattle.mc_timeline_why.proofs.Fronts.{memory_alone, no_fault}
 use Rattle.mc_timeline_why.proofs.cutting.timeline_of.Goals as goal
 

@@ -1,6 +1,5 @@
 use Rattle.std.proofs.Common.{◌≤◌, ◌-◌, length}
-use Rattle.mc_linearize.specs.Claims.{ExplainsTimeline}
-use Rattle.mc_linearize.specs.Verdicts.{IsUnexplained}
+use Rattle.mc_linearize.specs.{Claims.ExplainsTimeline, Verdicts.IsUnexplained}
 use Rattle.mc_timeline_why.specs.Fronts.{front}
 use Rattle.mc_timeline_why.proofs.locating.locate.Given as goal
 

@@ -1,6 +1,5 @@
 use Rattle.std.proofs.Common.{◌++◌, ap}
-use Rattle.mc_timeline_why.specs.Cursors.{places_in}
-use Rattle.mc_timeline_why.specs.TimelineWhyText.{Places, order_text}
+use Rattle.mc_timeline_why.specs.{Cursors.places_in, TimelineWhyText.Places, TimelineWhyText.order_text}
 use Rattle.mc_timeline_why.proofs.MoveLines.{from_start, moves_on}
 use Rattle.mc_timeline_why.proofs.order.print_moves.Goals as goal
 

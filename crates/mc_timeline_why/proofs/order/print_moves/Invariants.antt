@@ -1,6 +1,5 @@
 use Rattle.std.proofs.Common.{◌≡◌, ◌++◌, drop}
-use Rattle.mc_timeline_why.specs.Cursors.{places_in}
-use Rattle.mc_timeline_why.specs.TimelineWhyText.{order_text}
+use Rattle.mc_timeline_why.specs.{Cursors.places_in, TimelineWhyText.order_text}
 use Rattle.mc_timeline_why.proofs.order.print_moves.Given as goal
 
 abbrev pub invariant-moves : goal.invariant-moves

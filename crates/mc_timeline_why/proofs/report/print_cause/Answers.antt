@@ -2,8 +2,7 @@ use Rattle.std.proofs.Common.{◌≡◌, append_assoc, ap, refl, codes, slice_ge
 use Rattle.std.proofs.lemmas.Result.{on_ok_weaker}
 use Rattle.mc_history.proofs.PrintedLines.{appended}
 use Rattle.mc_timeline.specs.Timelines.{ClientNote}
-use Rattle.mc_timeline_why.specs.Fronts.{front}
-use Rattle.mc_timeline_why.specs.TimelineWhyText.{explained_text, overlap_text, place_text}
+use Rattle.mc_timeline_why.specs.{Fronts.front, TimelineWhyText.explained_text, TimelineWhyText.overlap_text, TimelineWhyText.place_text}
 use Rattle.mc_timeline_why.proofs.report.print_cause.Goals as goal
 
 five_parts : (out a b c d e : List ℕ) → ((((out ++ a) ++ b) ++ c) ++ d) ++ e ≡ out ++ (a ++ (b ++ (c ++ (d ++ e))))

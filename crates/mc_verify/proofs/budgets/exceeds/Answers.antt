@@ -1,6 +1,6 @@
 use Rattle.std.proofs.Common.{◌∙◌, ap, sym, subst}
 use Rattle.std.proofs.lemmas.Bool.{ltb-true, lt-ltb}
-use Rattle.mc_flow.specs.Costs.{bound_of}
+use Rattle.mc_sound.specs.Costs.{bound_of}
 use Rattle.mc_flow.proofs.SectionCosts.{IsCostAt}
 use Rattle.mc_verify.proofs.Exceeding.{exceeds_at}
 use Rattle.mc_verify.proofs.budgets.exceeds.Goals as goal

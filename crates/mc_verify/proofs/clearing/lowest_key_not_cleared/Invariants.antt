@@ -1,7 +1,7 @@
 use Rattle.std.proofs.Common.{ℕ, ◌<◌}
 use Rattle.mc_protocol.specs.declared.actor.Actor.TheVariants as actor
-use Rattle.mc_verify.specs.Faults.{IsFault}
-use Rattle.mc_verify.specs.declared.refusal.RefusalKind.TheVariants as kind
+use Rattle.mc_sound.specs.Faults.{IsFault}
+use Rattle.mc_sound.specs.declared.refusal_kind.RefusalKind.TheVariants as kind
 use Rattle.mc_verify.proofs.clearing.lowest_key_not_cleared.Given as goal
 
 abbrev pub invariant-keys : goal.invariant-keys

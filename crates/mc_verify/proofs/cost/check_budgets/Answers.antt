@@ -1,4 +1,4 @@
-use Rattle.mc_verify.specs.declared.refusal.RefusalKind.TheVariants as kind
+use Rattle.mc_sound.specs.declared.refusal_kind.RefusalKind.TheVariants as kind
 use Rattle.mc_verify.proofs.Exceeding.{found_by}
 use Rattle.mc_verify.proofs.cost.check_budgets.Goals as goal
 

@@ -1,5 +1,5 @@
 use Rattle.mc_protocol.specs.declared.actor.Actor.TheVariants as actor
-use Rattle.mc_flow.specs.declared.measure.Measure.TheVariants as measure
+use Rattle.mc_sound.specs.declared.measure.Measure.TheVariants as measure
 use Rattle.mc_verify.proofs.cost.greatest_costs.Goals as goal
 
 pub returns-clause-requests : goal.returns-clause-requests

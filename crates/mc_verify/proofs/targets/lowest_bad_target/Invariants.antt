@@ -1,6 +1,6 @@
 use Rattle.std.proofs.Common.{ℕ, ◌<◌}
-use Rattle.mc_verify.specs.Faults.{IsFault}
-use Rattle.mc_verify.specs.declared.refusal.RefusalKind.TheVariants as kind
+use Rattle.mc_sound.specs.Faults.{IsFault}
+use Rattle.mc_sound.specs.declared.refusal_kind.RefusalKind.TheVariants as kind
 use Rattle.mc_verify.proofs.targets.lowest_bad_target.Given as goal
 
 abbrev pub invariant-places : goal.invariant-places

@@ -1,8 +1,7 @@
 use Rattle.std.proofs.Common.{◌≡◌, ℕ, Some, [], slice_index_or, ap, sym, ◌∙◌}
 use Rattle.mc_verify.proofs.FaultsAt.{fault_of_send, fault_of_bind}
-use Rattle.mc_flow.proofs.Structured.{structured_variable}
-use Rattle.mc_flow.specs.Kinds.{may_have}
-use Rattle.mc_flow.specs.RunKinds.{may_stand}
+use Rattle.mc_sound.proofs.Structured.{structured_variable}
+use Rattle.mc_flow.specs.{Kinds.may_have, RunKinds.may_stand}
 use Rattle.mc_verify.proofs.variables.is_fault_at.Goals as goal
 
 pub returns-in-Send : goal.returns-in-Send

@@ -1,5 +1,5 @@
 use Rattle.std.proofs.Common.{ℕ, ◌<◌}
-use Rattle.mc_verify.specs.Faults.{IsFault}
+use Rattle.mc_sound.specs.Faults.{IsFault}
 use Rattle.mc_verify.proofs.variables.lowest_fault.Given as goal
 
 abbrev pub invariant-places : goal.invariant-places

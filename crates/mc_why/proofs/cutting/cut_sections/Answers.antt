@@ -1,6 +1,5 @@
 use Rattle.std.proofs.Common.{◌≡◌, ◌-◌, ℕ, true, false, List, length, take, sym, ap, ap₂, ◌∙◌}
-use Rattle.mc_model.specs.declared.sent.Sent.{Sent}
-use Rattle.mc_model.specs.History.{is_history}
+use Rattle.mc_model.specs.{declared.sent.Sent.Sent, History.is_history}
 use Rattle.mc_why.proofs.Cuts.{memory_alone, same_sections, sections_cut}
 use Rattle.mc_why.proofs.cutting.cut_sections.Goals as goal
 

@@ -1,11 +1,8 @@
 use Rattle.std.proofs.Common.{◌-◌, sym, subst, arith}
 use Rattle.mc_history.specs.Claim.{Claim}
 use Rattle.mc_claims.specs.Explains.{Explains}
-use Rattle.mc_explain.specs.Hopeless.{IsUnexplained}
-use Rattle.mc_explain.specs.Verdicts.{IsTrueOf}
-use Rattle.mc_explain.specs.declared.verdict.Verdict.{Verdict}
-use Rattle.mc_why.specs.Cuts.{cut}
-use Rattle.mc_why.specs.Causes.{IsUnexplainedFrom}
+use Rattle.mc_explain.specs.{Hopeless.IsUnexplained, Verdicts.IsTrueOf, declared.verdict.Verdict.Verdict}
+use Rattle.mc_why.specs.{Cuts.cut, Causes.IsUnexplainedFrom}
 use Rattle.mc_why.proofs.Places.{back_at, back_at_start, back_more, end_unexplained}
 use Rattle.mc_why.proofs.locating.go_back.Goals as goal
 

@@ -1,8 +1,7 @@
 use Rattle.std.proofs.Common.{sym, subst, arith}
 use Rattle.mc_history.specs.Claim.{Claim}
 use Rattle.mc_claims.specs.Explains.{Explains}
-use Rattle.mc_why.specs.Cuts.{cut}
-use Rattle.mc_why.specs.Causes.{IsUnexplainedFrom}
+use Rattle.mc_why.specs.{Cuts.cut, Causes.IsUnexplainedFrom}
 use Rattle.mc_why.proofs.Places.{end_unexplained, halves_meet, start_explained}
 use Rattle.mc_why.proofs.locating.halve.Goals as goal
 

@@ -1,6 +1,6 @@
 use Rattle.std.proofs.Common.{append_assoc, ap, codes, ◌∙◌, ◌++◌, ℕ, List, []}
-use Rattle.std.specs.List.{flat_map}
 use Rattle.std.proofs.lemmas.Result.{on_ok_weaker}
+use Rattle.std.specs.List.{flat_map}
 use Rattle.mc_why.specs.WhyText.{order_text, start_text}
 use Rattle.mc_why.proofs.order.print_parts.Goals as goal
 

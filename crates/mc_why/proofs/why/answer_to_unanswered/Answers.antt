@@ -1,8 +1,6 @@
 use Rattle.std.proofs.Common.{◌≡◌, ◌∙◌, ℕ, [], List, get_or, take, ap, ap₂}
 use Rattle.std.proofs.lemmas.Option.{get_or_from_slice_get}
-use Rattle.mc_model.specs.declared.sent.Sent.{Sent}
-use Rattle.mc_model.specs.Act.{act}
-use Rattle.mc_model.specs.Contents.{Contents}
+use Rattle.mc_model.specs.{declared.sent.Sent.Sent, Act.act, Contents.Contents}
 use Rattle.mc_history.specs.Claim.{Claim}
 use Rattle.mc_claims.specs.Explains.{start_contents}
 use Rattle.mc_why.specs.Answers.{moved_along}

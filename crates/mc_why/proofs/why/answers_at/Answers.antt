@@ -1,9 +1,7 @@
 use Rattle.std.proofs.Common.{◌+◌, subst}
 use Rattle.mc_protocol.specs.declared.actor.Actor.{Actor}
-use Rattle.mc_model.specs.Notes.{History}
-use Rattle.mc_model.specs.Sections.{section_of}
-use Rattle.mc_why.specs.Cuts.{cut}
-use Rattle.mc_why.specs.Answers.{IsAnswerIn}
+use Rattle.mc_model.specs.{Notes.History, Sections.section_of}
+use Rattle.mc_why.specs.{Cuts.cut, Answers.IsAnswerIn}
 use Rattle.mc_why.proofs.Answers.{each_section}
 use Rattle.mc_why.proofs.why.answers_at.Goals as goal
 

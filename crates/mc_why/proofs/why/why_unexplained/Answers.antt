@@ -1,6 +1,5 @@
 use Rattle.std.proofs.Common.{subst}
-use Rattle.mc_why.specs.declared.locating.Located.{Located}
-use Rattle.mc_why.specs.Locating.{IsPlaceOf}
+use Rattle.mc_why.specs.{declared.locating.Located.Located, Locating.IsPlaceOf}
 use Rattle.mc_why.proofs.why.why_unexplained.Goals as goal
 
 pub answers_at-requires : goal.answers_at-requires

@@ -1,6 +1,6 @@
 use Rattle.std.proofs.Common.{sym, subst}
-use Rattle.mc_verify.specs.Faults.{IsSound}
-use Rattle.mc_verify.proofs.Right.{sound_structured}
+use Rattle.mc_sound.specs.Faults.{IsSound}
+use Rattle.mc_sound.proofs.Right.{sound_structured}
 use Rattle.test_flow.proofs.table_tests.found_of.Goals as goal
 
 pub found_in-requires : goal.found_in-requires

@@ -2,8 +2,7 @@ use Rattle.std.proofs.Common.{◌≡◌, Some, slice_get, ap, sym, subst, ◌∙
 use Rattle.std.proofs.lemmas.Option.{slice_get_within}
 use Rattle.mc_protocol.specs.Legal.{is_fit_for}
 use Rattle.mc_script.specs.declared.step.Template.{Template}
-use Rattle.mc_code.specs.Calls.{template_of}
-use Rattle.mc_code.specs.Code.{Code}
+use Rattle.mc_code.specs.{Calls.template_of, Code.Code}
 use Rattle.mc_code.proofs.LookUps.{some_is}
 use Rattle.mc_machine.proofs.Standing.{outstanding_is_named}
 use Rattle.test_machine.proofs.play.exchange.Goals as goal

@@ -1,8 +1,7 @@
 use Rattle.std.proofs.Common.{◌≡◌, ◌≢◌, ◌⊎◌, inl, inr, [], refl, sym, ◌∙◌}
 use Rattle.mc_protocol.specs.declared.actor.Actor.{Actor}
 use Rattle.mc_protocol.specs.declared.actor.Actor.TheVariants as actor
-use Rattle.mc_code.specs.Code.{Code}
-use Rattle.mc_code.specs.Standing.{no_variables}
+use Rattle.mc_code.specs.{Code.Code, Standing.no_variables}
 use Rattle.mc_machine.proofs.Standing.{ends_start_branches}
 use Rattle.test_machine.proofs.play.play.Goals as goal
 

@@ -1,7 +1,6 @@
 use Rattle.std.proofs.Common.{◌≡◌, ◌∙◌, false, [], arith, inl}
 use Rattle.std.proofs.lemmas.List.Elements.{All-head}
-use Rattle.mc_command.specs.RepeatAnswers.{leaves_request}
-use Rattle.mc_command.specs.declared.run.Played.{Played}
+use Rattle.mc_command.specs.{RepeatAnswers.leaves_request, declared.run.Played.Played}
 use Rattle.mc_command.proofs.MoreRuns.{one_handed, one_right, one_right_under}
 use Rattle.mc_command.proofs.repeating.Runs.new.Goals as goal
 

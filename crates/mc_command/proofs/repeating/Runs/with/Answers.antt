@@ -1,9 +1,6 @@
 use Rattle.std.proofs.Common.{◌∙◌, ap, refl, sym}
-use Rattle.std.proofs.lemmas.Bool.{false≢true}
-use Rattle.std.proofs.lemmas.List.Elements.{All-push}
-use Rattle.mc_command.specs.RepeatAnswers.{IsRightUnder, succeeds}
-use Rattle.mc_command.specs.RunAnswers.{IsRightFor}
-use Rattle.mc_command.specs.declared.totals.Totals.{Totals}
+use Rattle.std.proofs.{lemmas.Bool.false≢true, lemmas.List.Elements.All-push}
+use Rattle.mc_command.specs.{RepeatAnswers.IsRightUnder, RepeatAnswers.succeeds, RunAnswers.IsRightFor, declared.totals.Totals.Totals}
 use Rattle.mc_command.proofs.MoreRuns.{failed_by, kept, last_settled, replaced, settled_before, succeeded_by}
 use Rattle.mc_command.proofs.repeating.Runs.with.Goals as goal
 

@@ -1,11 +1,8 @@
 use Rattle.std.proofs.Common.{ap, sym, subst, ◌∙◌}
-use Rattle.mc_core.specs.Fields.{world_in}
-use Rattle.mc_core.specs.Held.{Held}
-use Rattle.mc_core.proofs.HeldWorlds.{Fields}
+use Rattle.mc_core.specs.{Fields.world_in, Held.Held}
 use Rattle.mc_core.proofs.Recording.{IsAt, is_at, begins_named, recorded_next, counts_next, counts_room}
-use Rattle.mc_core.proofs.Taking.{fields_of}
+use Rattle.mc_core.proofs.{HeldWorlds.Fields, Taking.fields_of, world.World.record.Goals.After-get}
 use Rattle.mc_core.proofs.world.World.record.Goals as goal
-use Rattle.mc_core.proofs.world.World.record.Goals.{After-get}
 
 -- what the fields are, and where the note stands
 here : (c : After-get) → Fields c.args.checked.now.code c.self.inside.sections c.as_slice-notes.result.now

@@ -1,6 +1,5 @@
 use Rattle.std.proofs.Common.{◌≡◌, [], take}
-use Rattle.mc_core.specs.Fields.{AreBegun}
-use Rattle.mc_core.specs.Histories.{recorded_from}
+use Rattle.mc_core.specs.{Fields.AreBegun, Histories.recorded_from}
 use Rattle.mc_core.proofs.world.World.record.Given as goal
 
 abbrev pub invariant-recording : goal.invariant-recording

@@ -1,7 +1,6 @@
-use Rattle.mc_core.proofs.HeldWorlds.{Fields, shown}
 use Rattle.mc_core.proofs.Taking.{fields_of, refused_by, taken_by, names_a_template}
+use Rattle.mc_core.proofs.{HeldWorlds.Fields, HeldWorlds.shown, world.World.refusal.Goals.After-self}
 use Rattle.mc_core.proofs.world.World.refusal.Goals as goal
-use Rattle.mc_core.proofs.world.World.refusal.Goals.{After-self}
 
 fields : (c : After-self) → Fields c.args.checked.now.code c.self.inside.sections c.self.inside.notes.items
 fields c = fields_of _ _ _ _ _ c.requires.held c.self.view_is c.self.invariant

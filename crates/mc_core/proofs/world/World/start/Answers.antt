@@ -1,10 +1,7 @@
 use Rattle.std.proofs.Common.{◌≡◌, [], ap, sym, subst, ◌∙◌}
-use Rattle.mc_core.specs.Held.{IsHeldBy}
-use Rattle.mc_core.specs.Fields.{world_in, held_in}
-use Rattle.mc_core.specs.Worlds.{new_world}
-use Rattle.mc_core.proofs.HeldSteps.{leaves_start, started}
+use Rattle.mc_core.specs.{Held.IsHeldBy, Fields.world_in, Fields.held_in, Worlds.new_world}
+use Rattle.mc_core.proofs.{HeldSteps.leaves_start, HeldSteps.started, world.World.start.Goals.After-begin_branches}
 use Rattle.mc_core.proofs.world.World.start.Goals as goal
-use Rattle.mc_core.proofs.world.World.start.Goals.{After-begin_branches}
 
 pub begin_branches-requires : goal.begin_branches-requires
 begin_branches-requires c =

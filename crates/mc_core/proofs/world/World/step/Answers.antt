@@ -1,11 +1,8 @@
 use Rattle.std.proofs.Common.{arith, vec_capacity}
-use Rattle.mc_core.specs.Fields.{AreKept, world_in, held_in}
-use Rattle.mc_core.specs.Held.{IsHeldBy}
-use Rattle.mc_core.specs.Steps.{IsStep}
-use Rattle.mc_core.proofs.HeldWorlds.{Goes}
+use Rattle.mc_core.specs.{Fields.AreKept, Fields.world_in, Fields.held_in, Held.IsHeldBy, Steps.IsStep}
 use Rattle.mc_core.proofs.Taking.{goes, step_leaves, step_room, step_kept, step_taken, may_take}
+use Rattle.mc_core.proofs.{HeldWorlds.Goes, world.World.step.Goals.In-None, world.World.step.Goals.After-add_note}
 use Rattle.mc_core.proofs.world.World.step.Goals as goal
-use Rattle.mc_core.proofs.world.World.step.Goals.{In-None, After-add_note}
 
 -- what is known before the event is taken
 before : (c : In-None) → Goes c.args.checked.now.code c.self.inside.sections c.self.inside.notes.items c.args.actor c.args.event

@@ -1,12 +1,10 @@
 use Rattle.std.proofs.Common.{◌≡◌, Some, None, sym, subst, ◌∙◌}
 use Rattle.mc_code.specs.declared.instr.Call.{Call}
 use Rattle.mc_history.specs.declared.event.Event.TheVariants as event
-use Rattle.mc_core.specs.Fields.{MayTake}
-use Rattle.mc_core.specs.Steps.{MayBegin}
-use Rattle.mc_core.proofs.Taking.{goes, may_take}
+use Rattle.mc_core.specs.{Fields.MayTake, Steps.MayBegin}
 use Rattle.mc_core.proofs.Upcoming.{begins_upcoming, begins_exactly, begins_none, begins_named}
+use Rattle.mc_core.proofs.{Taking.goes, Taking.may_take, world.World.upcoming.Goals.After-upcoming}
 use Rattle.mc_core.proofs.world.World.upcoming.Goals as goal
-use Rattle.mc_core.proofs.world.World.upcoming.Goals.{After-upcoming}
 
 pub upcoming-requires : goal.upcoming-requires
 upcoming-requires c =

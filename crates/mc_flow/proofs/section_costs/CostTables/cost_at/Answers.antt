@@ -1,8 +1,7 @@
 use Rattle.std.proofs.Common.{sym, subst}
-use Rattle.mc_flow.proofs.CallCosts.{weight_inside, weight_named}
-use Rattle.mc_flow.proofs.CostSpread.{zero_by}
-use Rattle.mc_flow.proofs.SectionCosts.{IsCostAt, send_reached, send_unreached}
-use Rattle.mc_flow.proofs.Structured.{structured_template}
+use Rattle.mc_flow.proofs.{SectionCosts.IsCostAt, SectionCosts.send_reached, SectionCosts.send_unreached, CallCosts.weight_inside, CallCosts.weight_named}
+use Rattle.mc_flow.proofs.{CostSpread.zero_by}
+use Rattle.mc_sound.proofs.Structured.{structured_template}
 use Rattle.mc_flow.proofs.section_costs.CostTables.cost_at.Goals as goal
 
 pub of-requires : goal.of-requires

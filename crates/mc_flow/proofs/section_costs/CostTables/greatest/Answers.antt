@@ -1,5 +1,5 @@
 use Rattle.std.proofs.Common.{length, ap, arith}
-use Rattle.mc_flow.specs.CostTables.{cost_by}
+use Rattle.mc_sound.specs.Costs.{cost_by}
 use Rattle.mc_flow.proofs.SectionCosts.{greatest_goes_on, greatest_ends}
 use Rattle.mc_flow.proofs.section_costs.CostTables.greatest.Goals as goal
 

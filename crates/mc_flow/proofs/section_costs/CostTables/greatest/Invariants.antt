@@ -1,5 +1,4 @@
-use Rattle.mc_flow.specs.CostTables.{cost_by}
-use Rattle.mc_flow.specs.declared.measure.Measure.{Measure}
+use Rattle.mc_sound.specs.{Costs.cost_by, declared.measure.Measure.Measure}
 use Rattle.mc_flow.proofs.SectionCosts.{IsGreatestBefore}
 use Rattle.mc_flow.proofs.section_costs.CostTables.greatest.Given as goal
 

@@ -1,7 +1,6 @@
 use Rattle.std.proofs.Common.{◌≡◌, sym, subst}
 use Rattle.mc_generate.proofs.Less.{shrunk-more, steps-before, steps-fewer}
-use Rattle.mc_generate.specs.Shrinking.{HasSteps}
-use Rattle.mc_generate.specs.Shrunk.{IsShrunk}
+use Rattle.mc_generate.specs.{Shrinking.HasSteps, Shrunk.IsShrunk}
 use Rattle.mc_generate.proofs.shrinker.Shrinker.next.Goals as goal
 
 pub invariant_of-self-in-Some-2 : goal.invariant_of-self-in-Some-2

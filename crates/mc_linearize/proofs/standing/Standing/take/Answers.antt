@@ -1,7 +1,6 @@
 use Rattle.std.proofs.Common.{◌≡◌, ◌<◌, ◌+◌, ◌∙◌, length, get_or, set, sym, ap, subst, arith}
 use Rattle.std.proofs.lemmas.List.{get_or_read}
-use Rattle.mc_timeline.specs.Operations.{Operation}
-use Rattle.mc_timeline.specs.Queues.{Queues, NoNextCameBefore}
+use Rattle.mc_timeline.specs.{Operations.Operation, Queues.Queues, Queues.NoNextCameBefore}
 use Rattle.mc_linearize.specs.Standing.{left_by, HasBegan, NoneBegan, MayAct, ActsNext}
 use Rattle.mc_linearize.proofs.Settling.{none_acts, none_after, acts_next}
 use Rattle.mc_linearize.proofs.standing.Standing.take.Goals as goal

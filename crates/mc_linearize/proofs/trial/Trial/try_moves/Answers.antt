@@ -1,12 +1,9 @@
 use Rattle.std.proofs.Common.{◌≡◌, ◌↔◌, ◌<◌, ◌+◌, ◌^◌, true, false, ap, [], ◌∷◌, IsTrue, get_or, drop, add-one, drop-cons, sym, subst, ◌∙◌}
+use Rattle.std.proofs.{lemmas.List.drop_all, lemmas.List.take_all, lemmas.List.Elements.All-more, lemmas.Result.IfOk-weaker}
 use Rattle.std.specs.List.{All}
-use Rattle.std.proofs.lemmas.List.{drop_all, take_all}
-use Rattle.std.proofs.lemmas.List.Elements.{All-more}
-use Rattle.mc_linearize.specs.declared.explanation.TimelineMove.{TimelineMove}
-use Rattle.std.proofs.lemmas.Result.{IfOk-weaker}
+use Rattle.mc_linearize.specs.{declared.explanation.TimelineMove.TimelineMove, Trials.Trial, Trials.Tries}
 use Rattle.mc_history.specs.Distinct.{AreDistinct}
 use Rattle.mc_timeline.specs.Queues.{MayEnd}
-use Rattle.mc_linearize.specs.Trials.{Trial, Tries}
 use Rattle.mc_linearize.proofs.trial.Trial.try_moves.Goals as goal
 
 abbrev Fits : TimelineMove → Type 0

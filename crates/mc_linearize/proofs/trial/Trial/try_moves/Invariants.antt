@@ -1,7 +1,6 @@
 use Rattle.std.proofs.Common.{◌↔◌, ◌<◌, ◌^◌, drop, take}
 use Rattle.std.specs.List.{All}
-use Rattle.mc_linearize.specs.declared.explanation.TimelineMove.{TimelineMove}
-use Rattle.mc_linearize.specs.Trials.{Tries}
+use Rattle.mc_linearize.specs.{declared.explanation.TimelineMove.TimelineMove, Trials.Tries}
 use Rattle.mc_linearize.proofs.trial.Trial.try_moves.Given as goal
 
 -- what is left can be tried from here exactly if all can from the start

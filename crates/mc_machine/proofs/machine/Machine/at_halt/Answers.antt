@@ -1,8 +1,6 @@
 use Rattle.std.proofs.Common.{◌≡◌, Some, slice_get, ap, sym, subst, ◌∙◌}
 use Rattle.mc_code.specs.declared.instr.Instr.TheVariants as instr
-use Rattle.mc_code.specs.Code.{Code, instructions_in}
-use Rattle.mc_code.specs.Standing.{ComesTo}
-use Rattle.mc_code.specs.States.{ended}
+use Rattle.mc_code.specs.{Code.Code, Code.instructions_in, Standing.ComesTo, States.ended}
 use Rattle.mc_code.proofs.LookUps.{some_is}
 use Rattle.mc_machine.specs.declared.machine.Machine.{Machine}
 use Rattle.mc_machine.proofs.Standing.{halts_at_end}

@@ -1,9 +1,7 @@
 use Rattle.std.proofs.Common.{rules, ◌≡◌, ◌+◌, ◌<◌, ◌≤◌, length, slice_get, refl, ap, sym, subst, ◌∙◌, arith}
 use Rattle.mc_code.specs.declared.instr.Instr.TheVariants as instr
-use Rattle.mc_code.specs.Code.{instructions_in}
-use Rattle.mc_code.specs.declared.limits.TheConstants.{INSTRUCTIONS_LIMIT}
-use Rattle.mc_machine.specs.declared.machine.Machine.{Machine}
-use Rattle.mc_machine.specs.Moves.{Follows}
+use Rattle.mc_code.specs.{Code.instructions_in, declared.limits.TheConstants.INSTRUCTIONS_LIMIT}
+use Rattle.mc_machine.specs.{declared.machine.Machine.Machine, Moves.Follows}
 use Rattle.mc_machine.proofs.Moving.{goes_inside, goes_declared, goes_short, bind_ahead, follows_bind, follows_goto}
 use Rattle.mc_machine.proofs.machine.Machine.slide.Goals as goal
 

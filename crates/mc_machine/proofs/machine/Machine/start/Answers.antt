@@ -1,11 +1,9 @@
 use Rattle.std.proofs.Common.{◌≡◌, true, None, [], slice_get, subst}
-use Rattle.mc_code.specs.Code.{instructions_in}
-use Rattle.mc_code.specs.States.{initial_state}
+use Rattle.mc_code.specs.{Code.instructions_in, States.initial_state}
 use Rattle.mc_machine.specs.declared.machine.Machine.{Machine}
 use Rattle.mc_machine.specs.Machine as spec
 use Rattle.mc_machine.specs.Moves as moves
-use Rattle.mc_machine.proofs.Moving.{stands_after}
-use Rattle.mc_machine.proofs.Standing.{starts_goes, starts_on_way}
+use Rattle.mc_machine.proofs.{Moving.stands_after, Standing.starts_goes, Standing.starts_on_way}
 use Rattle.mc_machine.proofs.machine.Machine.start.Goals as goal
 
 pub settle-requires-clause-goes : goal.settle-requires-clause-goes

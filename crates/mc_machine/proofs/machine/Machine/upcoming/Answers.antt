@@ -1,9 +1,7 @@
 use Rattle.std.proofs.Common.{◌≡◌, Some, None, slice_get, refl, ap, sym, subst, ◌∙◌}
-use Rattle.mc_code.specs.Calls.{IsCalling}
-use Rattle.mc_code.specs.Code.{Code, instructions_in}
-use Rattle.mc_verify.specs.Faults.{IsSound}
-use Rattle.mc_machine.specs.declared.machine.Machine.{Machine}
-use Rattle.mc_machine.specs.Machine.{IsAt}
+use Rattle.mc_code.specs.{Calls.IsCalling, Code.Code, Code.instructions_in}
+use Rattle.mc_sound.specs.Faults.{IsSound}
+use Rattle.mc_machine.specs.{declared.machine.Machine.Machine, Machine.IsAt}
 use Rattle.mc_machine.proofs.Standing.{calls_at, template_there, ends_at_no_send, ends_elsewhere}
 use Rattle.mc_machine.proofs.machine.Machine.upcoming.Goals as goal
 

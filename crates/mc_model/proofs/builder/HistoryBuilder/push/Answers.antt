@@ -1,11 +1,9 @@
 use Rattle.std.proofs.Common.{◌≡◌, ℕ, true, None, refl, sym, ◌∙◌}
-use Rattle.mc_model.specs.Types.{Actor, Sent}
-use Rattle.mc_model.specs.Sections.{Sections, with_sent}
 use Rattle.mc_model.specs.History.{is_history, fault_at, key_count}
-use Rattle.mc_model.specs.Next.{keys_with}
+use Rattle.mc_model.specs.{Types.Actor, Types.Sent, Sections.Sections, Sections.with_sent, Next.keys_with}
 use Rattle.mc_model.proofs.Faults.{no_fault, keys_counted}
-use Rattle.mc_model.proofs.builder.HistoryBuilder.push.Goals as goal
 use Rattle.mc_model.proofs.builder.HistoryBuilder.push.Goals.{in-P+in_ok-push-in-P, in-A+in_ok-push-in-A, in-B+in_ok-push-in-B}
+use Rattle.mc_model.proofs.builder.HistoryBuilder.push.Goals as goal
 
 -- a history with one more request that has no fault, and its keys
 kept : (before after : Sections) (keys : ℕ) (who : Actor) (sent : Sent) → is_history before ≡ true → fault_at before who sent ≡ None

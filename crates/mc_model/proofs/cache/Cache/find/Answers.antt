@@ -1,10 +1,9 @@
 -- What is found is the item of the entry with the key.
 use Rattle.std.proofs.Common.{◌≡◌, Option, Some, None, rules, tests, ap, ◌∙◌}
-use Rattle.std.specs.Str.{bytes_eq}
-use Rattle.std.specs.FinMap as finite_map
-use Rattle.std.specs.Option.{MatchOption, IsSomeAnd, option_map, option_copied}
-use denote.Bor.{Bor}
 use Rattle.std.proofs.lemmas.{Iterator.YieldsList-from_slice, Iterator.Search.find_from_yields_List}
+use Rattle.std.specs.{Str.bytes_eq, Option.MatchOption, Option.IsSomeAnd, Option.option_map, Option.option_copied}
+use Rattle.std.specs.FinMap as finite_map
+use denote.Bor.{Bor}
 use Rattle.mc_model.proofs.Entries.{found_entry}
 use Rattle.mc_model.proofs.cache.Cache.find.Goals as goal
 

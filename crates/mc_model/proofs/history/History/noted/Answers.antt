@@ -1,9 +1,8 @@
 use Rattle.std.proofs.Common.{◌≡◌, ◌≢◌, ℕ, ◌<◌, true, Some, List, length, get_or, take, map-id, sym, ap, ◌∙◌}
 use Rattle.std.proofs.lemmas.{Option.slice_get-get_or, Iterator.Adapters.YieldsList-from_vec}
 use Rattle.std.proofs.lemmas.Iterator.Consumers.{YieldsList-turn, YieldsList-so_far}
-use Rattle.mc_model.specs.Types.{Actor, Note, HistoryKind}
-use Rattle.mc_model.specs.declared.rules.HistoryKind.TheVariants.{OutOfMemory}
 use Rattle.mc_model.specs.Notes.{Noted, is_record, fault_of, IsFirstFaultOfNotes}
+use Rattle.mc_model.specs.{Types.Actor, Types.Note, Types.HistoryKind, declared.rules.HistoryKind.TheVariants.OutOfMemory}
 use Rattle.mc_model.proofs.NoteFaults.{no_record}
 use Rattle.mc_model.proofs.history.History.noted.Goals as goal
 

@@ -2,8 +2,7 @@ use Rattle.std.proofs.Common.{◌+◌, ◌++◌, [], Ok, length-drop, sym, subst
 use Rattle.mc_lane.proofs.Carried.{range_from}
 use Rattle.mc_reader.specs.AskReading.{HasRead}
 use Rattle.mc_server.specs.Conversing.{AnswersNext}
-use Rattle.mc_server.proofs.Putting.{can_go_on}
-use Rattle.mc_server.proofs.Talking.{new_line, talk_none, talk_on, talk_and_none, talk_ends_on}
+use Rattle.mc_server.proofs.{Putting.can_go_on, Talking.new_line, Talking.talk_none, Talking.talk_on, Talking.talk_and_none, Talking.talk_ends_on}
 use Rattle.mc_server.proofs.conversation.Conversation.put_answers.Goals as goal
 
 pub asks-init : goal.asks-init

@@ -1,9 +1,7 @@
 use Rattle.std.proofs.Common.{false, Option, Some, refl, sym, ap, ◌∙◌}
-use Rattle.std.specs.FinMap as finite_map
 use Rattle.std.proofs.lemmas.Result.{on_ok_weaker, on_err_weaker}
-use Rattle.mc_model.specs.Contents.{contents_of}
-use Rattle.mc_model.specs.Decide.{change_at, made_by}
-use Rattle.mc_model.specs.declared.cache.Item.{Item}
+use Rattle.std.specs.FinMap as finite_map
+use Rattle.mc_model.specs.{Contents.contents_of, Decide.change_at, Decide.made_by, declared.cache.Item.Item}
 use Rattle.mc_server.specs.Made.{with_made}
 use Rattle.mc_server.proofs.Maps.{got, kept_entries, made_entries}
 use Rattle.mc_server.proofs.items.Items.make.Goals as goal

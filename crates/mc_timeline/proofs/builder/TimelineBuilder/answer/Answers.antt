@@ -3,11 +3,8 @@ use Rattle.std.specs.Prelude.{if◌then◌else◌}
 use Rattle.std.specs.Option.{option_copied}
 use Rattle.mc_model.specs.declared.note.Note.TheVariants as note
 use Rattle.mc_model.specs.declared.rules.HistoryKind.TheVariants as kind
-use Rattle.mc_timeline.specs.Timelines.{operations_of}
-use Rattle.mc_timeline.specs.Rules.{waiting_of}
-use Rattle.mc_timeline.specs.RuleState.{begun_at, Answers}
-use Rattle.mc_timeline.proofs.Following.{finds_request}
-use Rattle.mc_timeline.proofs.Replied.{no_request, fault_by, asked, follows_reply}
+use Rattle.mc_timeline.specs.{Timelines.operations_of, Rules.waiting_of, RuleState.begun_at, RuleState.Answers}
+use Rattle.mc_timeline.proofs.{Following.finds_request, Replied.no_request, Replied.fault_by, Replied.asked, Replied.follows_reply}
 use Rattle.mc_timeline.proofs.builder.TimelineBuilder.answer.Goals as goal
 
 pub returns-in_default-clause-fault : goal.returns-in_default-clause-fault

@@ -1,0 +1,9 @@
+pub mod Settling
+pub mod InterleavingSteps
+pub mod InterleavingEnds
+pub mod FlagReplays
+pub mod CostReplays
+pub mod KindReplays
+pub mod KindBegins
+pub mod KindSlides
+pub mod KindStates

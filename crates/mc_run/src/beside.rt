@@ -1,0 +1,130 @@
+//! Runs of which one branch is given to a thread that is kept.
+ghost use Rattle.std.specs.Arc.{arc_value};
+ghost use Rattle.std.specs.Prelude.{◌≡◌, IfOk};
+ghost use Rattle.mc_core.specs.{Held.IsHeldBy, Histories.history_of};
+ghost use Rattle.mc_explain.specs.Verdicts.{IsWithin};
+ghost use Rattle.mc_run.specs.{Agreement.Agree, Judged.IsJudged};
+
+use crate::agreement::find_agreed;
+use crate::desk::{Table, Task};
+use crate::meeting::Meeting;
+use crate::notebook::Notebook;
+use crate::run::judge_history;
+use crate::running::{both_have_calls, run_in_turn};
+use crate::section::{Part, run_section};
+use crate::{Book, Branch, Desk, Gate, Judged, Lanes, Meet, Run, RunError};
+use mc_lane::{Lane, Stream};
+use mc_model::History;
+use mc_protocol::Actor;
+use mc_sound::Checked;
+use std::alloc::{AllocError, Global};
+use std::sync::{Arc, Mutex, Wait};
+
+/// Runs sound code over three lanes, as [`play`](crate::play), but makes no thread: `meet.apart` runs on the thread that is at the
+/// desk's other end, all else on this one.
+///
+/// # Errors
+///
+/// Why there is no run, or that memory ran out before there was a verdict: see [`RunError`]. Where the other thread has stopped, there
+/// is no thread.
+pub fn play_beside<S: Stream, G: Gate, R: Wait>(
+    rt: &R,
+    alloc: Global,
+    checked: &Arc<Checked, Global>,
+    lanes: Lanes<S>,
+    gate: &G,
+    desk: &Desk<S>,
+    meet: Meet,
+    limit: u64,
+) -> Result<Judged<S>, RunError>
+    ensures judged { IfOk result (λ j. IsJudged (arc_value checked.now).code j.run.world j.run.lanes j.history j.verdict) }
+    ensures turns { IfOk result (λ j. IsWithin limit j.verdict j.turns) }
+{
+    let (run, history) = run_beside(rt, alloc, checked, lanes, gate, desk, meet)?;
+    let (verdict, turns) = judge_history(alloc, checked, &run.world, &history, limit)?;
+    Ok(Judged {
+        run,
+        history,
+        verdict,
+        turns,
+    })
+}
+
+/// The run, with its history.
+fn run_beside<S: Stream, G: Gate, R: Wait>(
+    rt: &R,
+    alloc: Global,
+    checked: &Arc<Checked, Global>,
+    lanes: Lanes<S>,
+    gate: &G,
+    desk: &Desk<S>,
+    meet: Meet,
+) -> Result<(Run<S>, History), RunError>
+    ensures agrees { IfOk result (λ found. Agree (arc_value checked.now).code found.0.world.world found.0.lanes) }
+    ensures held { IfOk result (λ found. IsHeldBy (arc_value checked.now).code found.0.world) }
+    ensures history { IfOk result (λ found. found.1 ≡ history_of (arc_value checked.now).code found.0.world.world) }
+{
+    let table = lay_table(alloc, checked, meet)?;
+    desk.announce(rt);
+    let Lanes { p, a, b } = lanes;
+    let p = run_section(rt, alloc, &table.book, gate, Part::new(Actor::P, p));
+    let (a, b) = run_branches(rt, alloc, &table, gate, (a, b), desk, meet.apart)?;
+    let lanes = Lanes { p, a, b };
+    let book = table.book.lock(rt);
+    match find_agreed(alloc, checked, book.world(), &lanes)? {
+        Some((world, history)) => Ok((Run { world, lanes }, history)),
+        None => Err(RunError::BookMismatch),
+    }
+}
+
+/// A table for a run of the code.
+fn lay_table(
+    alloc: Global,
+    checked: &Arc<Checked, Global>,
+    meet: Meet,
+) -> Result<Arc<Table, Global>, AllocError> {
+    let book = Book::sharing(alloc, Arc::try_clone(checked)?)?;
+    let table = Table {
+        book: Mutex::new(Notebook::new(book)),
+        meeting: Meeting::new(meet),
+    };
+    Ok(Arc::new(alloc, table)?)
+}
+
+/// Runs both branches, and answers their lanes.
+fn run_branches<S: Stream, G: Gate, R: Wait>(
+    rt: &R,
+    alloc: Global,
+    table: &Arc<Table, Global>,
+    gate: &G,
+    lanes: (Lane<S>, Lane<S>),
+    desk: &Desk<S>,
+    apart: Branch,
+) -> Result<(Lane<S>, Lane<S>), RunError> {
+    let (a, b) = lanes;
+    if !both_have_calls(rt, &table.book) {
+        return Ok(run_in_turn(rt, alloc, &table.book, gate, (a, b)));
+    }
+    let a = task(table, Branch::A, a)?;
+    let b = task(table, Branch::B, b)?;
+    match apart {
+        Branch::A => desk.run_both(rt, alloc, gate, a, b),
+        Branch::B => {
+            let (b, a) = desk.run_both(rt, alloc, gate, b, a)?;
+            Ok((a, b))
+        }
+    }
+}
+
+/// The task to run a branch at a table.
+fn task<S: Stream>(
+    table: &Arc<Table, Global>,
+    branch: Branch,
+    lane: Lane<S>,
+) -> Result<Task<S>, AllocError> {
+    Ok(Task {
+        table: Arc::try_clone(table)?,
+        branch,
+        lane,
+    })
+}

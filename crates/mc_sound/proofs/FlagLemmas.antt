@@ -1,0 +1,21 @@
+-- What requests need of flags, and what is sent along ways.
+use Rattle.std.proofs.Common.{◌≡◌, ℕ, List, [], ◌∷◌, ◌++◌, refl, ap, ◌∙◌}
+use Rattle.std.proofs.lemmas.List.{map-append}
+use Rattle.mc_protocol.specs.declared.actor.Actor.{Actor}
+use Rattle.mc_protocol.specs.declared.actor.Actor.TheVariants as actor
+use Rattle.mc_code.specs.{Calls.calls_of, Code.Code, Paths.Edge}
+use Rattle.mc_sound.specs.Interleavings.{Stage, staged, calls_along, LeadsToBoth}
+
+-- ---- the calls of a way
+
+pub staged_calls : (actor : Actor) (edges : List Edge) → calls_along (staged actor edges) ≡ calls_of edges
+staged_calls actor [] = refl
+staged_calls actor (edge ∷ edges) = ap (λ l. edge.0 ∷ l) (staged_calls actor edges)
+
+-- P's, and then those of the branches
+pub calls_in_turn : (c : Code) (p q : ℕ) (way : List Stage) → (both : LeadsToBoth c p q way)
+    → calls_along way ≡ calls_of both.before ++ calls_along both.merged
+calls_in_turn c p q way both =
+    ap calls_along both.way_is
+    ∙ map-append (λ (stage : Stage). stage.1.0) (staged actor.P both.before) both.merged
+    ∙ ap (λ l. l ++ calls_along both.merged) (staged_calls actor.P both.before)

@@ -1,0 +1,9 @@
+pub mod Flags
+pub mod Interleavings
+pub mod Costs
+pub mod Structure
+pub mod Clearing
+pub mod Faults
+pub mod LeastFaults
+pub mod Checked
+pub mod Laws

@@ -1,5 +1,0 @@
-use Rattle.mc_verify.proofs.Admitted.{lack_not_admitted}
-use Rattle.mc_verify.proofs.laws.lack_is_not_admitted.Goals as goal
-
-pub returns : goal.returns
-returns c = lack_not_admitted

@@ -1,5 +1,0 @@
-use Rattle.mc_verify.proofs.CostLemmas.{cost_less}
-use Rattle.mc_verify.proofs.laws.prefixes_cost_less.Goals as goal
-
-pub returns : goal.returns
-returns c = cost_less

@@ -1,5 +1,0 @@
-use Rattle.mc_verify.proofs.Sent.{sent_admitted}
-use Rattle.mc_verify.proofs.laws.sent_is_admitted.Goals as goal
-
-pub returns : goal.returns
-returns c = sent_admitted
