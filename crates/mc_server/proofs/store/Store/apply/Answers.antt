@@ -3,8 +3,9 @@ use Rattle.std.specs.FinMap as finite_map
 use Rattle.mc_model.specs.Act as act
 use Rattle.mc_model.specs.Decide.{change_at}
 use Rattle.mc_server.specs.Stores.{AreBelow}
-use Rattle.mc_server.proofs.{Below.below_changed, store.Store.apply.Goals.then-counts, store.Store.apply.Goals.else-counts}
+use Rattle.mc_server.proofs.Below.{below_changed}
 use Rattle.mc_server.proofs.store.Store.apply.Goals as goal
+use Rattle.mc_server.proofs.store.Store.apply.Goals.{then-counts, else-counts}
 
 pub invariant_of-self-2 : goal.invariant_of-self-2
 invariant_of-self-2 c =
