@@ -3,26 +3,20 @@ use Rattle.std.specs.Prelude.{ℕ, List, codes}
 use Rattle.mc_model.specs.declared.rules.HistoryKind.{HistoryKind}
 use Rattle.mc_model.specs.declared.rules.HistoryKind.TheVariants as kind
 
+abbrev pub number_and_name : HistoryKind → ℕ × List ℕ
+number_and_name kind.Header = (1, codes "Header")
+number_and_name kind.Line = (2, codes "Line")
+number_and_name kind.Number = (3, codes "Number")
+number_and_name kind.Order = (4, codes "Order")
+number_and_name kind.WrongReply = (5, codes "WrongReply")
+number_and_name kind.NotCleared = (6, codes "NotCleared")
+number_and_name kind.UnseenNumber = (7, codes "UnseenNumber")
+number_and_name kind.TooMany = (8, codes "TooMany")
+number_and_name kind.Unended = (9, codes "Unended")
+number_and_name kind.OutOfMemory = (10, codes "OutOfMemory")
+
 abbrev pub kind_number : HistoryKind → ℕ
-kind_number kind.Header = 1
-kind_number kind.Line = 2
-kind_number kind.Number = 3
-kind_number kind.Order = 4
-kind_number kind.WrongReply = 5
-kind_number kind.NotCleared = 6
-kind_number kind.UnseenNumber = 7
-kind_number kind.TooMany = 8
-kind_number kind.Unended = 9
-kind_number kind.OutOfMemory = 10
+kind_number found = (number_and_name found).0
 
 abbrev pub kind_name : HistoryKind → List ℕ
-kind_name kind.Header = codes "Header"
-kind_name kind.Line = codes "Line"
-kind_name kind.Number = codes "Number"
-kind_name kind.Order = codes "Order"
-kind_name kind.WrongReply = codes "WrongReply"
-kind_name kind.NotCleared = codes "NotCleared"
-kind_name kind.UnseenNumber = codes "UnseenNumber"
-kind_name kind.TooMany = codes "TooMany"
-kind_name kind.Unended = codes "Unended"
-kind_name kind.OutOfMemory = codes "OutOfMemory"
+kind_name found = (number_and_name found).1

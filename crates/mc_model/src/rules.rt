@@ -53,33 +53,18 @@ impl FaultKind for HistoryKind {
 
     ghost OutOfMemory = { OutOfMemory };
 
-    fn number(self) -> u32 {
+    fn number_and_name(self) -> (u32, &'static str) {
         match self {
-            HistoryKind::Header => 1,
-            HistoryKind::Line => 2,
-            HistoryKind::Number => 3,
-            HistoryKind::Order => 4,
-            HistoryKind::WrongReply => 5,
-            HistoryKind::NotCleared => 6,
-            HistoryKind::UnseenNumber => 7,
-            HistoryKind::TooMany => 8,
-            HistoryKind::Unended => 9,
-            HistoryKind::OutOfMemory => 10,
-        }
-    }
-
-    fn name(self) -> &'static str {
-        match self {
-            HistoryKind::Header => "Header",
-            HistoryKind::Line => "Line",
-            HistoryKind::Number => "Number",
-            HistoryKind::Order => "Order",
-            HistoryKind::WrongReply => "WrongReply",
-            HistoryKind::NotCleared => "NotCleared",
-            HistoryKind::UnseenNumber => "UnseenNumber",
-            HistoryKind::TooMany => "TooMany",
-            HistoryKind::Unended => "Unended",
-            HistoryKind::OutOfMemory => "OutOfMemory",
+            HistoryKind::Header => (1, "Header"),
+            HistoryKind::Line => (2, "Line"),
+            HistoryKind::Number => (3, "Number"),
+            HistoryKind::Order => (4, "Order"),
+            HistoryKind::WrongReply => (5, "WrongReply"),
+            HistoryKind::NotCleared => (6, "NotCleared"),
+            HistoryKind::UnseenNumber => (7, "UnseenNumber"),
+            HistoryKind::TooMany => (8, "TooMany"),
+            HistoryKind::Unended => (9, "Unended"),
+            HistoryKind::OutOfMemory => (10, "OutOfMemory"),
         }
     }
 

@@ -31,31 +31,30 @@ impl Fault {
     pub fn number(self) -> u8
         ensures { result ≡ spec.fault_number self }
     {
-        match self {
-            Fault::WriteFailed => 1,
-            Fault::ReadFailed => 2,
-            Fault::Ended => 3,
-            Fault::BadReply => 4,
-            Fault::ErrorLine => 5,
-            Fault::TooMuch => 6,
-            Fault::Closed => 7,
-            Fault::Memory => 8,
-        }
+        self.number_and_name().0
     }
 
     /// Its name.
     pub fn name(self) -> &'static str
         ensures { result.now ≡ spec.fault_name self }
     {
+        self.number_and_name().1
+    }
+
+    /// Its number and its name.
+    fn number_and_name(self) -> (u8, &'static str)
+        ensures number { result.0 ≡ spec.fault_number self }
+        ensures name { result.1.now ≡ spec.fault_name self }
+    {
         match self {
-            Fault::WriteFailed => "WriteFailed",
-            Fault::ReadFailed => "ReadFailed",
-            Fault::Ended => "Ended",
-            Fault::BadReply => "BadReply",
-            Fault::ErrorLine => "ErrorLine",
-            Fault::TooMuch => "TooMuch",
-            Fault::Closed => "Closed",
-            Fault::Memory => "Memory",
+            Fault::WriteFailed => (1, "WriteFailed"),
+            Fault::ReadFailed => (2, "ReadFailed"),
+            Fault::Ended => (3, "Ended"),
+            Fault::BadReply => (4, "BadReply"),
+            Fault::ErrorLine => (5, "ErrorLine"),
+            Fault::TooMuch => (6, "TooMuch"),
+            Fault::Closed => (7, "Closed"),
+            Fault::Memory => (8, "Memory"),
         }
     }
 

@@ -15,13 +15,24 @@ pub trait FaultKind: Copy {
     // memory ran out
     ghost OutOfMemory: { Self };
 
+    /// The number and the name of the kind.
+    fn number_and_name(self) -> (u32, &'static str)
+        ensures number { result.0 ≡ kind_number self }
+        ensures name { result.1.now ≡ kind_name self };
+
     /// The number of the kind.
     fn number(self) -> u32
-        ensures { result ≡ kind_number self };
+        ensures { result ≡ kind_number self }
+    {
+        self.number_and_name().0
+    }
 
     /// The name of the kind.
     fn name(self) -> &'static str
-        ensures { result.now ≡ kind_name self };
+        ensures { result.now ≡ kind_name self }
+    {
+        self.number_and_name().1
+    }
 
     /// Whether memory ran out, which is no fault of the input.
     fn is_out_of_memory(self) -> bool
