@@ -29,19 +29,11 @@ impl FaultKind for AsmFault {
 
     ghost OutOfMemory = { OutOfMemory };
 
-    fn number(self) -> u32 {
+    fn number_and_name(self) -> (u32, &'static str) {
         match self {
-            AsmFault::TooManyTemplates => 1,
-            AsmFault::TooManyInstructions(_) => 2,
-            AsmFault::OutOfMemory => 3,
-        }
-    }
-
-    fn name(self) -> &'static str {
-        match self {
-            AsmFault::TooManyTemplates => "TooManyTemplates",
-            AsmFault::TooManyInstructions(_) => "TooManyInstructions",
-            AsmFault::OutOfMemory => "OutOfMemory",
+            AsmFault::TooManyTemplates => (1, "TooManyTemplates"),
+            AsmFault::TooManyInstructions(_) => (2, "TooManyInstructions"),
+            AsmFault::OutOfMemory => (3, "OutOfMemory"),
         }
     }
 

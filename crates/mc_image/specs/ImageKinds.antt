@@ -3,18 +3,16 @@ use Rattle.std.specs.Prelude.{ℕ, List, codes}
 use Rattle.mc_image.specs.declared.fault.ImageKind.{ImageKind}
 use Rattle.mc_image.specs.declared.fault.ImageKind.TheVariants as kind
 
+abbrev pub number_and_name : ImageKind → ℕ × List ℕ
+number_and_name kind.Magic = (1, codes "Magic")
+number_and_name kind.Short = (2, codes "Short")
+number_and_name kind.Range = (3, codes "Range")
+number_and_name kind.Template = (4, codes "Template")
+number_and_name kind.Extra = (5, codes "Extra")
+number_and_name kind.OutOfMemory = (6, codes "OutOfMemory")
+
 abbrev pub kind_number : ImageKind → ℕ
-kind_number kind.Magic = 1
-kind_number kind.Short = 2
-kind_number kind.Range = 3
-kind_number kind.Template = 4
-kind_number kind.Extra = 5
-kind_number kind.OutOfMemory = 6
+kind_number found = (number_and_name found).0
 
 abbrev pub kind_name : ImageKind → List ℕ
-kind_name kind.Magic = codes "Magic"
-kind_name kind.Short = codes "Short"
-kind_name kind.Range = codes "Range"
-kind_name kind.Template = codes "Template"
-kind_name kind.Extra = codes "Extra"
-kind_name kind.OutOfMemory = codes "OutOfMemory"
+kind_name found = (number_and_name found).1

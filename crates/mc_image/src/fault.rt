@@ -38,25 +38,14 @@ impl FaultKind for ImageKind {
 
     ghost OutOfMemory = { OutOfMemory };
 
-    fn number(self) -> u32 {
+    fn number_and_name(self) -> (u32, &'static str) {
         match self {
-            ImageKind::Magic => 1,
-            ImageKind::Short => 2,
-            ImageKind::Range => 3,
-            ImageKind::Template => 4,
-            ImageKind::Extra => 5,
-            ImageKind::OutOfMemory => 6,
-        }
-    }
-
-    fn name(self) -> &'static str {
-        match self {
-            ImageKind::Magic => "Magic",
-            ImageKind::Short => "Short",
-            ImageKind::Range => "Range",
-            ImageKind::Template => "Template",
-            ImageKind::Extra => "Extra",
-            ImageKind::OutOfMemory => "OutOfMemory",
+            ImageKind::Magic => (1, "Magic"),
+            ImageKind::Short => (2, "Short"),
+            ImageKind::Range => (3, "Range"),
+            ImageKind::Template => (4, "Template"),
+            ImageKind::Extra => (5, "Extra"),
+            ImageKind::OutOfMemory => (6, "OutOfMemory"),
         }
     }
 

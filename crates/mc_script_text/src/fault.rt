@@ -53,43 +53,23 @@ impl FaultKind for ScriptKind {
 
     ghost OutOfMemory = { OutOfMemory };
 
-    fn number(self) -> u32 {
+    fn number_and_name(self) -> (u32, &'static str) {
         match self {
-            ScriptKind::Header => 1,
-            ScriptKind::Line => 2,
-            ScriptKind::Name => 3,
-            ScriptKind::Duplicate => 4,
-            ScriptKind::UnknownKey => 5,
-            ScriptKind::UnknownFlag => 6,
-            ScriptKind::UnknownVar => 7,
-            ScriptKind::UnknownLabel => 8,
-            ScriptKind::BackwardLabel => 9,
-            ScriptKind::Number => 10,
-            ScriptKind::Data => 11,
-            ScriptKind::TooMany => 12,
-            ScriptKind::Budget => 13,
-            ScriptKind::Unended => 14,
-            ScriptKind::OutOfMemory => 15,
-        }
-    }
-
-    fn name(self) -> &'static str {
-        match self {
-            ScriptKind::Header => "Header",
-            ScriptKind::Line => "Line",
-            ScriptKind::Name => "Name",
-            ScriptKind::Duplicate => "Duplicate",
-            ScriptKind::UnknownKey => "UnknownKey",
-            ScriptKind::UnknownFlag => "UnknownFlag",
-            ScriptKind::UnknownVar => "UnknownVar",
-            ScriptKind::UnknownLabel => "UnknownLabel",
-            ScriptKind::BackwardLabel => "BackwardLabel",
-            ScriptKind::Number => "Number",
-            ScriptKind::Data => "Data",
-            ScriptKind::TooMany => "TooMany",
-            ScriptKind::Budget => "Budget",
-            ScriptKind::Unended => "Unended",
-            ScriptKind::OutOfMemory => "OutOfMemory",
+            ScriptKind::Header => (1, "Header"),
+            ScriptKind::Line => (2, "Line"),
+            ScriptKind::Name => (3, "Name"),
+            ScriptKind::Duplicate => (4, "Duplicate"),
+            ScriptKind::UnknownKey => (5, "UnknownKey"),
+            ScriptKind::UnknownFlag => (6, "UnknownFlag"),
+            ScriptKind::UnknownVar => (7, "UnknownVar"),
+            ScriptKind::UnknownLabel => (8, "UnknownLabel"),
+            ScriptKind::BackwardLabel => (9, "BackwardLabel"),
+            ScriptKind::Number => (10, "Number"),
+            ScriptKind::Data => (11, "Data"),
+            ScriptKind::TooMany => (12, "TooMany"),
+            ScriptKind::Budget => (13, "Budget"),
+            ScriptKind::Unended => (14, "Unended"),
+            ScriptKind::OutOfMemory => (15, "OutOfMemory"),
         }
     }
 

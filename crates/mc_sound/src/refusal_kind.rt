@@ -54,37 +54,20 @@ impl FaultKind for RefusalKind {
 
     ghost OutOfMemory = { OutOfMemory };
 
-    fn number(self) -> u32 {
+    fn number_and_name(self) -> (u32, &'static str) {
         match self {
-            RefusalKind::BadTarget => 1,
-            RefusalKind::BadIndex => 2,
-            RefusalKind::NoHalt => 3,
-            RefusalKind::NotCleared => 4,
-            RefusalKind::Unbound => 5,
-            RefusalKind::WrongKind => 6,
-            RefusalKind::NothingToBind => 7,
-            RefusalKind::FlagMayBeClear => 8,
-            RefusalKind::FlagMayBeSet => 9,
-            RefusalKind::TooManyRequests => 10,
-            RefusalKind::TooManyBytes => 11,
-            RefusalKind::OutOfMemory => 12,
-        }
-    }
-
-    fn name(self) -> &'static str {
-        match self {
-            RefusalKind::BadTarget => "BadTarget",
-            RefusalKind::BadIndex => "BadIndex",
-            RefusalKind::NoHalt => "NoHalt",
-            RefusalKind::NotCleared => "NotCleared",
-            RefusalKind::Unbound => "Unbound",
-            RefusalKind::WrongKind => "WrongKind",
-            RefusalKind::NothingToBind => "NothingToBind",
-            RefusalKind::FlagMayBeClear => "FlagMayBeClear",
-            RefusalKind::FlagMayBeSet => "FlagMayBeSet",
-            RefusalKind::TooManyRequests => "TooManyRequests",
-            RefusalKind::TooManyBytes => "TooManyBytes",
-            RefusalKind::OutOfMemory => "OutOfMemory",
+            RefusalKind::BadTarget => (1, "BadTarget"),
+            RefusalKind::BadIndex => (2, "BadIndex"),
+            RefusalKind::NoHalt => (3, "NoHalt"),
+            RefusalKind::NotCleared => (4, "NotCleared"),
+            RefusalKind::Unbound => (5, "Unbound"),
+            RefusalKind::WrongKind => (6, "WrongKind"),
+            RefusalKind::NothingToBind => (7, "NothingToBind"),
+            RefusalKind::FlagMayBeClear => (8, "FlagMayBeClear"),
+            RefusalKind::FlagMayBeSet => (9, "FlagMayBeSet"),
+            RefusalKind::TooManyRequests => (10, "TooManyRequests"),
+            RefusalKind::TooManyBytes => (11, "TooManyBytes"),
+            RefusalKind::OutOfMemory => (12, "OutOfMemory"),
         }
     }
 
