@@ -2,10 +2,9 @@
 use Rattle.std.proofs.Common.{◌≡◌, ◌⊎◌, ℕ, ◌+◌, ◌<◌, ◌≤◌, Result, Ok, Err, List, [], ◌∷◌, ◌++◌, length, take, refl, sym, ap, ap₂, ◌∙◌, arith}
 use Rattle.std.proofs.{Common.inl, Common.inr, Common.length-append, lemmas.Bool.cases_lt, lemmas.List.get_or_append_left, lemmas.List.get_or_push}
 use Rattle.std.specs.Prelude.{OnOk, OnErr, IfErr, slice_index_or}
-use Rattle.mc_protocol.specs.declared.actor.Actor.{Actor}
+use Rattle.mc_protocol.specs.{declared.actor.Actor.Actor, declared.event.Event.Event}
+use Rattle.mc_protocol.specs.declared.event.Event.TheVariants as event
 use Rattle.mc_code.specs.Code.{Code}
-use Rattle.mc_history.specs.declared.event.Event.{Event}
-use Rattle.mc_history.specs.declared.event.Event.TheVariants as event
 use Rattle.mc_core.specs.{declared.step_refusal.StepRefusal.StepRefusal, Held.Held, Histories.recorded_after, Histories.recorded_from, Histories.record_of}
 use Rattle.mc_core.specs.{Steps.IsFold, Steps.IsRefused, Steps.IsStep, Worlds.Noted, Worlds.World, Worlds.new_world}
 use Rattle.mc_core.proofs.LongerFolds.{skipped_over, taken}

@@ -7,7 +7,7 @@ use Rattle.mc_core.specs.{Held.Held, Held.IsHeldBy, Histories.history_of, Worlds
 use Rattle.mc_history.specs.{StepText.SpellsSteps, declared.steps_fault.StepsKind.StepsKind}
 use Rattle.mc_history.specs.declared.steps_fault.StepsKind.TheVariants as steps_kind
 use Rattle.mc_explain.specs.{Verdicts.IsStated, declared.verdict.Verdict.Verdict}
-use Rattle.mc_run.specs.Headline.{IsTrial}
+use Rattle.mc_trial.specs.Headline.{IsTrial}
 use Rattle.mc_answers.specs.Loading.{IsFrontCode, IsFrontFault, SaysNoCode, SaysUnsound}
 use Rattle.mc_answers.specs.{Endings.endings_text, Endings.run_status, Refusing.IsRefusal, StepLines.IsStepLine, Verdicts.verdict_text}
 use Rattle.mc_answers.specs.{WhyAnswers.IsWhyBy, declared.status.Status.Status}

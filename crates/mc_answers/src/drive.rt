@@ -14,8 +14,8 @@ use mc_cli::Search;
 use mc_core::World;
 use mc_explain::Verdict;
 use mc_hints::Refused;
-use mc_history::{Event, StepsFault, parse_steps};
-use mc_protocol::{Actor, Lines, Separator, fault_of_input};
+use mc_history::{StepsFault, parse_steps};
+use mc_protocol::{Actor, Event, Lines, Separator, fault_of_input};
 use mc_sound::Checked;
 use std::alloc::{AllocError, Global};
 

@@ -6,8 +6,7 @@ ghost use Rattle.mc_core.specs.Worlds as worlds;
 ghost use Rattle.mc_answers.specs.StepLines.{AreMadeBy};
 
 use mc_core::{World, folds_are_safe};
-use mc_history::Event;
-use mc_protocol::Actor;
+use mc_protocol::{Actor, Event};
 use mc_sound::Checked;
 use std::alloc::{AllocError, Global};
 

@@ -4,7 +4,8 @@ use Rattle.mc_code.specs.Code.{Code}
 use Rattle.mc_model.specs.Notes.{History}
 use Rattle.mc_core.specs.Held.{Held}
 use Rattle.mc_explain.specs.declared.verdict.Verdict.{Verdict}
-use Rattle.mc_run.specs.{Agreement.Agree, Agreement.LaneRecords, Judged.IsJudged}
+use Rattle.mc_run.specs.Agreement.{Agree, LaneRecords}
+use Rattle.mc_trial.specs.Judged.{IsJudged}
 use Rattle.mc_campaign.specs.Outcomes.{AreClosed, closed_lanes}
 use Rattle.mc_campaign.proofs.Closing.{agree_closed}
 

@@ -3,7 +3,8 @@ use Rattle.std.specs.Prelude.{◌≡◌, ◌≢◌, ℕ, Option, None}
 use Rattle.mc_protocol.specs.Lines.{Word}
 use Rattle.mc_code.specs.Code.{Code}
 use Rattle.mc_explain.specs.Verdicts.{IsWithin}
-use Rattle.mc_run.specs.{Agreement.LaneRecords, Judged.IsJudged}
+use Rattle.mc_run.specs.Agreement.{LaneRecords}
+use Rattle.mc_trial.specs.Judged.{IsJudged}
 use Rattle.mc_generate.specs.JobCodes.{code_for, IsJobFault}
 use Rattle.mc_generate.specs.declared.fault.JobFault.TheVariants as fault
 use Rattle.mc_campaign.specs.declared.outcome.JobOutcome.{JobOutcome}

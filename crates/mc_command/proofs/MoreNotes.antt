@@ -3,10 +3,9 @@ use Rattle.std.proofs.Common.{◌≡◌, ◌∙◌, ◌<◌, ℕ, ◌+◌, Bool,
 use Rattle.std.proofs.Common.{length, take, map, ap, refl, sym, append-nil, get_or}
 use Rattle.std.proofs.{lemmas.List.map-append, lemmas.List.take_more, lemmas.List.Concat.flat_map-append, lemmas.List.Folds.list_any-append}
 use Rattle.std.specs.List.{last_or, list_any}
-use Rattle.mc_protocol.specs.declared.actor.Actor.{Actor}
+use Rattle.mc_protocol.specs.{declared.actor.Actor.Actor, declared.event.Event.Event}
 use Rattle.mc_protocol.specs.declared.actor.Actor.TheVariants as actor
 use Rattle.mc_model.specs.Notes.{is_same_section}
-use Rattle.mc_history.specs.declared.event.Event.{Event}
 use Rattle.mc_command.specs.Overlaps.{are_both_outstanding, fronts, is_begin, is_outstanding, is_some_begin, overlaps}
 use Rattle.mc_core.specs.Worlds.{Noted, event_of, events_of}
 

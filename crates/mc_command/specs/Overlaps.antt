@@ -1,10 +1,9 @@
 -- Whether a request of A and one of B were outstanding at once.
 use Rattle.std.specs.Prelude.{Bool, true, false, ◌&&◌, Option, Some, None, List, [], ◌∷◌, map}
 use Rattle.std.specs.List.{last_or, list_any}
-use Rattle.mc_protocol.specs.declared.actor.Actor.{Actor}
+use Rattle.mc_protocol.specs.{declared.actor.Actor.Actor, declared.event.Event.Event}
 use Rattle.mc_protocol.specs.declared.actor.Actor.TheVariants as actor
-use Rattle.mc_history.specs.declared.event.Event.{Event}
-use Rattle.mc_history.specs.declared.event.Event.TheVariants as event
+use Rattle.mc_protocol.specs.declared.event.Event.TheVariants as event
 use Rattle.mc_core.specs.Worlds.{Noted, events_of}
 
 -- it is the begin of a request

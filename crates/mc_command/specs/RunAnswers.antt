@@ -7,7 +7,8 @@ use Rattle.mc_sound.specs.Faults.{IsSound}
 use Rattle.mc_core.specs.Held.{Held}
 use Rattle.mc_history.specs.PrintedHistory.{history_text}
 use Rattle.mc_explain.specs.declared.verdict.Verdict.{Verdict}
-use Rattle.mc_run.specs.{Agreement.LaneRecords, Judged.IsJudged}
+use Rattle.mc_run.specs.Agreement.{LaneRecords}
+use Rattle.mc_trial.specs.Judged.{IsJudged}
 use Rattle.mc_generate.specs.CodesUnder.{IsPutFault, code_under}
 use Rattle.mc_generate.specs.declared.naming.PutFault.TheVariants as put_fault
 use Rattle.mc_answers.specs.Loading.{IsScriptRefusal, SaysUnsound, Spells}

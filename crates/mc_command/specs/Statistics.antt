@@ -1,10 +1,10 @@
 -- Statistics of runs that came to a history.
 use Rattle.std.specs.Prelude.{◌≡◌, ℕ, nat_lt, Bool, true, false, ◌&&◌, Option, Some, is_some, List, [], ◌∷◌, ◌++◌, length}
 use Rattle.std.specs.List.{count_by, flat_map, position}
-use Rattle.mc_protocol.specs.{declared.actor.Actor.Actor, declared.reply.Class.Class, declared.request.Verb.Verb}
+use Rattle.mc_protocol.specs.{declared.actor.Actor.Actor, declared.event.Event.Event, declared.reply.Class.Class}
+use Rattle.mc_protocol.specs.declared.request.Verb.{Verb}
 use Rattle.mc_protocol.specs.declared.actor.Actor.TheVariants as actor
-use Rattle.mc_history.specs.declared.event.Event.{Event}
-use Rattle.mc_history.specs.declared.event.Event.TheVariants as event
+use Rattle.mc_protocol.specs.declared.event.Event.TheVariants as event
 use Rattle.mc_core.specs.Worlds.{Noted}
 use Rattle.mc_model.specs.{Notes.History, Notes.is_same_section, declared.sent.Sent.Sent}
 use Rattle.mc_command.specs.Replies.{CountsRequests, answers_in, answers_of, capped}

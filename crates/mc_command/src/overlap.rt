@@ -4,8 +4,7 @@ ghost use Rattle.mc_core.specs.Worlds.{Noted};
 ghost use Rattle.mc_command.specs.Overlaps as spec;
 ghost use Rattle.mc_model.specs.Notes.{is_same_section};
 
-use mc_history::Event;
-use mc_protocol::Actor;
+use mc_protocol::{Actor, Event};
 
 /// Whether a request of A and one of B were outstanding at once, by the notes of a run: both had begun, and neither was answered or had
 /// failed.

@@ -6,9 +6,8 @@ ghost use Rattle.mc_command.specs.Statistics as spec;
 use crate::overlap::{is_same, overlaps};
 use crate::replies::Replies;
 use crate::run::Played;
-use mc_history::Event;
 use mc_model::History;
-use mc_protocol::{Actor, Class, Verb};
+use mc_protocol::{Actor, Class, Event, Verb};
 use std::fmt::{Display, Error, Formatter, Write};
 
 /// What runs that came to a history sent and received, counted. No count is greater than 2^64 - 1.

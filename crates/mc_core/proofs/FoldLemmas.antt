@@ -1,10 +1,9 @@
 -- Folds: one for each list of events, and the same again for the notes that they leave.
 use Rattle.std.proofs.Common.{◌≡◌, ◌⊎◌, inl, inr, ℕ, ◌+◌, List, [], ◌∷◌, ◌++◌, refl, ap, sym, subst, ◌∙◌, append-nil, append_assoc, arith}
-use Rattle.mc_protocol.specs.declared.actor.Actor.{Actor}
+use Rattle.mc_protocol.specs.{declared.actor.Actor.Actor, declared.event.Event.Event}
 use Rattle.mc_protocol.specs.declared.actor.Actor.TheVariants as actor
 use Rattle.mc_code.specs.Code.{Code}
 use Rattle.mc_core.specs.declared.ending.Ending.TheVariants as ending
-use Rattle.mc_history.specs.declared.event.Event.{Event}
 use Rattle.mc_core.specs.{declared.step_refusal.StepRefusal.StepRefusal, Laws.FoldsRepeat, Laws.FoldsOnce, Laws.EndsOnce, Steps.IsRefused, Steps.IsStep}
 use Rattle.mc_core.specs.{Steps.IsFold, Steps.ends, Steps.steps, Steps.skips, Steps.IsWorldOf, Worlds.World, Worlds.Noted, Worlds.new_world}
 use Rattle.mc_core.proofs.StepLemmas.{IsRight, step_right, step_grows, step_once, never_both}

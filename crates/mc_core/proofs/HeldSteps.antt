@@ -1,12 +1,12 @@
 -- What a world holds at its start, and after an event that it takes: the branches begin once P is done, with what it leaves.
 use Rattle.std.proofs.Common.{◌≡◌, ◌≢◌, ◌⊎◌, inl, inr, ℕ, Option, None, List, [], refl, ap, sym, subst, ◌∙◌, false, ◌∷◌, ◌++◌}
 use Rattle.std.specs.List.{zip}
-use Rattle.mc_protocol.specs.{Sections.section_of, declared.actor.Actor.Actor, declared.sections.Sections.Sections}
+use Rattle.mc_protocol.specs.{Sections.section_of, declared.actor.Actor.Actor, declared.event.Event.Event}
+use Rattle.mc_protocol.specs.declared.sections.Sections.{Sections}
 use Rattle.mc_protocol.specs.declared.actor.Actor.TheVariants as actor
 use Rattle.mc_code.specs.{Code.Code, Standing.ComesTo, Standing.Leaves, Standing.no_variables, States.Tagged, States.State, States.ended}
 use Rattle.mc_machine.specs.{Machine.IsAt, Machine.StartsFrom, Machine.numbers_of, declared.machine.Machine.Machine}
 use Rattle.mc_model.specs.Notes.{is_same_section}
-use Rattle.mc_history.specs.declared.event.Event.{Event}
 use Rattle.mc_core.specs.Fields.{replies_of, waiting_in, fault_in, world_in, held_in, Begins, LeavesNumbers, BranchesBegin, BranchesFollow, AfterOwn}
 use Rattle.mc_core.specs.Worlds.{World, Noted, new_world, log_of, exchanges_of, BeginsIn, IsBegun, IsDone, IsEnding, with_note, with_section}
 use Rattle.mc_core.specs.{Fields.AllTake, Held.Stands, Held.HasMachine, Held.IsHeldBy, Logs.Log, Logs.new_log, Logs.exchanges_in, Steps.ends, Steps.IsStep}

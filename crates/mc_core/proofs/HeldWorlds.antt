@@ -1,6 +1,7 @@
 -- What a section's fields say of a world: its log, how it stands, and where its machine stands.
 use Rattle.std.proofs.Common.{◌≡◌, ◌≢◌, ◌⊎◌, inl, inr, ℕ, true, Option, Some, None, List, slice_get, refl, ap, sym, subst, ◌∙◌}
-use Rattle.mc_protocol.specs.{Sections.section_of, declared.actor.Actor.Actor, declared.sections.Sections.Sections}
+use Rattle.mc_protocol.specs.{Sections.section_of, declared.actor.Actor.Actor, declared.event.Event.Event}
+use Rattle.mc_protocol.specs.declared.sections.Sections.{Sections}
 use Rattle.mc_protocol.specs.declared.actor.Actor.TheVariants as actor
 use Rattle.mc_code.specs.States.{Tagged, State, ended}
 use Rattle.mc_code.specs.{Code.Code, Code.instructions_in, Paths.Slides, Runs.Exchange, Standing.ComesTo, declared.instr.Instr.Instr}
@@ -12,7 +13,6 @@ use Rattle.mc_core.specs.Held.{Held, Stands, HasMachine, IsHeldBy}
 use Rattle.mc_core.specs.Worlds.{World, Noted, log_of, exchanges_of, BeginsIn, HasEnded, IsBegun, IsDone, IsEnding}
 use Rattle.mc_core.specs.{declared.ending.Ending.Ending, declared.section.Section.Section, Logs.Log, Steps.IsStep, Steps.IsWorldOf}
 use Rattle.mc_core.specs.declared.ending.Ending.TheVariants as ending
-use Rattle.mc_history.specs.declared.event.Event.{Event}
 use Rattle.mc_core.proofs.StepLemmas.{begins_once}
 
 -- ---- fields that show a world

@@ -1,9 +1,10 @@
 -- What is recorded of a fold spells its sections, and keeps the rules of a history.
 use Rattle.std.proofs.Common.{◌≡◌, inr, ◌<◌, true, None, List, [], ◌∷◌, ◌++◌, length, map, slice_index_or, refl, ap, sym, subst, ◌∙◌, arith, length-append}
 use Rattle.std.proofs.{lemmas.Bool.true_from_ne_false, lemmas.List.append-nil, lemmas.List.length-map, lemmas.List.map-append, lemmas.List.get_or_at}
-use Rattle.mc_protocol.specs.declared.limits.TheConstants.{REQUESTS_LIMIT}
-use Rattle.mc_protocol.specs.{Legal.is_fit_for, declared.actor.Actor.Actor, declared.fault.Fault.Fault, declared.reply.Reply.Reply}
+use Rattle.mc_protocol.specs.{Legal.is_fit_for, declared.actor.Actor.Actor, declared.event.Event.Event, declared.fault.Fault.Fault}
+use Rattle.mc_protocol.specs.{declared.limits.TheConstants.REQUESTS_LIMIT, declared.reply.Reply.Reply}
 use Rattle.mc_protocol.specs.declared.actor.Actor.TheVariants as actor
+use Rattle.mc_protocol.specs.declared.event.Event.TheVariants as event
 use Rattle.mc_code.specs.{Calls.template_of, Code.Code, Code.IsCode, declared.instr.Call.Call}
 use Rattle.mc_model.specs.Sections.{Sections, section_of, with_sent}
 use Rattle.mc_model.specs.{History.is_history, Notes.is_record, Notes.sections_in, declared.sent.Sent.Sent}
@@ -13,8 +14,6 @@ use Rattle.mc_model.specs.declared.note.Note.TheVariants as note
 use Rattle.mc_model.proofs.Answering.{last_of-push, with_last_reply-push}
 use Rattle.mc_model.proofs.NoteFaults.{fault_by_sections, record_push, record_parts, nothing_noted, sections_noted}
 use Rattle.mc_sound.specs.Faults.{IsSound}
-use Rattle.mc_history.specs.declared.event.Event.{Event}
-use Rattle.mc_history.specs.declared.event.Event.TheVariants as event
 use Rattle.mc_core.specs.declared.step_refusal.StepRefusal.TheVariants as refusal
 use Rattle.mc_core.specs.Histories.{begin_count, call_after, no_call, record_of, sent_of, unanswered, sent_in, sections_of}
 use Rattle.mc_core.specs.{Laws.IsRecorded, Laws.FoldsAreRecorded, Logs.Log, Logs.call_of, Logs.calls_in, Logs.request_of, Logs.with_call, Logs.with_reply}

@@ -3,15 +3,14 @@ use Rattle.std.proofs.Common.{◌≡◌, true, false, Option, Some, None, List, 
 use Rattle.std.proofs.{lemmas.List.append-nil, lemmas.List.append_assoc, lemmas.List.Concat.flat_map-append, lemmas.List.Elements.All-nil}
 use Rattle.std.proofs.{lemmas.List.Elements.All-cons, lemmas.Option.get_or_from_slice_get, lemmas.Option.slice_get_within}
 use Rattle.std.specs.{List.flat_map, Option.option_to_list}
-use Rattle.mc_protocol.specs.declared.sections.Sections.{Sections}
-use Rattle.mc_protocol.specs.{Legal.is_fit_for, Sections.section_of, declared.actor.Actor.Actor, declared.fault.Fault.Fault, declared.reply.Reply.Reply}
+use Rattle.mc_protocol.specs.{Legal.is_fit_for, Sections.section_of, declared.actor.Actor.Actor, declared.event.Event.Event}
+use Rattle.mc_protocol.specs.{declared.fault.Fault.Fault, declared.reply.Reply.Reply, declared.sections.Sections.Sections}
 use Rattle.mc_protocol.specs.declared.actor.Actor.TheVariants as actor
+use Rattle.mc_protocol.specs.declared.event.Event.TheVariants as event
 use Rattle.mc_code.specs.Calls.{IsCalling, MakesAll, exchange_of, template_of, no_template}
 use Rattle.mc_code.specs.{Code.Code, Runs.Exchange, Runs.met_at, Runs.met_by_send, States.Tagged, States.call, States.send_outcome, declared.instr.Call.Call}
 use Rattle.mc_code.proofs.{LookUps.some_is, StandingLemmas.calls_open, StandingLemmas.template_is}
 use Rattle.mc_model.specs.Notes.{is_same_section}
-use Rattle.mc_history.specs.declared.event.Event.{Event}
-use Rattle.mc_history.specs.declared.event.Event.TheVariants as event
 use Rattle.mc_core.specs.Logs.{Log, new_log, call_of, calls_in, events_of_pair, begin_of, events_in, exchanges_in, with_call, with_reply, with_fault}
 use Rattle.mc_core.specs.{Logs.IsNextCall, Logs.IsRightLog, Worlds.World, Worlds.log_of, Worlds.with_note, Worlds.with_section}
 

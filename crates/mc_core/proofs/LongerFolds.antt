@@ -1,9 +1,8 @@
 -- A fold with one more event.
 use Rattle.std.proofs.Common.{◌≡◌, ℕ, ◌+◌, true, false, Result, Ok, Err, List, [], ◌∷◌, ◌++◌, sym, subst}
 use Rattle.std.specs.Prelude.{is_err, OnOk, OnErr, IfErr}
-use Rattle.mc_protocol.specs.declared.actor.Actor.{Actor}
+use Rattle.mc_protocol.specs.{declared.actor.Actor.Actor, declared.event.Event.Event}
 use Rattle.mc_code.specs.Code.{Code}
-use Rattle.mc_history.specs.declared.event.Event.{Event}
 use Rattle.mc_core.specs.declared.step_refusal.StepRefusal.{StepRefusal}
 use Rattle.mc_core.specs.{Held.Held, Steps.IsStep, Steps.IsRefused, Steps.IsFold, Worlds.World, Worlds.Noted, Worlds.new_world}
 use Rattle.mc_core.proofs.FoldLemmas.{fold_step, fold_skip}

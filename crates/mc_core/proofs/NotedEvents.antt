@@ -3,12 +3,12 @@ use Rattle.std.proofs.Common.{◌≡◌, ℕ, ◌+◌, ◌*◌, ◌≤◌, Optio
 use Rattle.std.proofs.Common.{if◌then◌else◌}
 use Rattle.std.proofs.{lemmas.List.append-nil, lemmas.List.Concat.flat_map-append}
 use Rattle.std.specs.{List.flat_map, Option.option_to_list}
-use Rattle.mc_protocol.specs.{declared.actor.Actor.Actor, declared.fault.Fault.Fault, declared.reply.Reply.Reply}
+use Rattle.mc_protocol.specs.{declared.actor.Actor.Actor, declared.event.Event.Event, declared.fault.Fault.Fault}
+use Rattle.mc_protocol.specs.declared.reply.Reply.{Reply}
 use Rattle.mc_protocol.specs.declared.actor.Actor.TheVariants as actor
 use Rattle.mc_protocol.proofs.FirstItems.{rest_is}
+use Rattle.mc_protocol.specs.declared.event.Event.TheVariants as event
 use Rattle.mc_code.specs.{Code.Code, declared.instr.Call.Call}
-use Rattle.mc_history.specs.declared.event.Event.{Event}
-use Rattle.mc_history.specs.declared.event.Event.TheVariants as event
 use Rattle.mc_core.specs.Logs.{Log, events_of_pair, begin_of, call_of, calls_in, events_in}
 use Rattle.mc_core.specs.Worlds.{World, Noted, new_world, log_of, event_of, events_of, with_note}
 use Rattle.mc_core.specs.{Histories.begin_count, Safety.IsSilentAfterFault, Steps.IsStep, Steps.IsFold}

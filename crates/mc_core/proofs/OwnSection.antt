@@ -2,14 +2,13 @@
 use Rattle.std.proofs.Common.{◌≡◌, inr, false, Option, Some, None, List, [], ◌∷◌, ◌++◌, length, refl, ap, ap₂, sym, subst, ◌∙◌, arith, if◌then◌else◌}
 use Rattle.std.proofs.{lemmas.List.append-nil, lemmas.List.map-append, lemmas.List.Concat.flat_map-append}
 use Rattle.std.specs.List.{zip, flat_map}
-use Rattle.mc_protocol.specs.declared.sections.Sections.{Sections}
-use Rattle.mc_protocol.specs.{Sections.section_of, declared.actor.Actor.Actor, declared.fault.Fault.Fault, declared.reply.Reply.Reply}
+use Rattle.mc_protocol.specs.{Sections.section_of, declared.actor.Actor.Actor, declared.event.Event.Event, declared.fault.Fault.Fault}
+use Rattle.mc_protocol.specs.{declared.reply.Reply.Reply, declared.sections.Sections.Sections}
+use Rattle.mc_protocol.specs.declared.event.Event.TheVariants as event
 use Rattle.mc_code.specs.{Calls.IsCalling, Calls.exchange_of, Code.Code, Runs.Exchange, States.State, declared.instr.Call.Call}
 use Rattle.mc_machine.specs.{Machine.IsAt, declared.machine.Machine.Machine}
 use Rattle.mc_model.specs.Notes.{is_same_section}
 use Rattle.mc_core.specs.declared.ending.Ending.TheVariants as ending
-use Rattle.mc_history.specs.declared.event.Event.{Event}
-use Rattle.mc_history.specs.declared.event.Event.TheVariants as event
 use Rattle.mc_core.specs.Fields.{reply_in, replies_of, waiting_in, fault_in, world_in, SameCalls, Takes, IsKept}
 use Rattle.mc_core.specs.Logs.{Log, exchanges_in, with_call, with_reply, with_fault}
 use Rattle.mc_core.specs.Worlds.{World, Noted, log_of, with_note, event_of, events_of, exchanges_of, IsDone, IsEnding}

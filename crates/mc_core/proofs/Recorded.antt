@@ -1,11 +1,10 @@
 -- What is recorded of a world grows with it, by what is noted.
 use Rattle.std.proofs.Common.{◌≡◌, ℕ, ◌+◌, ◌<◌, ◌≤◌, List, [], ◌∷◌, ◌++◌, length, slice_index_or, refl, ap, ap₂, sym, ◌∙◌, arith}
 use Rattle.std.proofs.{lemmas.List.append-nil, lemmas.List.append_assoc, lemmas.List.get_or_append_left, lemmas.List.Concat.flat_map-append}
-use Rattle.mc_protocol.specs.declared.actor.Actor.{Actor}
+use Rattle.mc_protocol.specs.{declared.actor.Actor.Actor, declared.event.Event.Event}
+use Rattle.mc_protocol.specs.declared.event.Event.TheVariants as event
 use Rattle.mc_code.specs.{Code.Code, declared.instr.Call.Call}
 use Rattle.mc_model.specs.declared.note.Note.TheVariants as note
-use Rattle.mc_history.specs.declared.event.Event.{Event}
-use Rattle.mc_history.specs.declared.event.Event.TheVariants as event
 use Rattle.mc_core.specs.Histories.{begin_count, no_call, call_after, recorded_after, recorded_from, record_of}
 use Rattle.mc_core.specs.Logs.{Log, calls_in, request_of}
 use Rattle.mc_core.specs.Worlds.{World, Noted, log_of, event_of, events_of, with_note}

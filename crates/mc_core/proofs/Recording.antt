@@ -3,14 +3,14 @@ use Rattle.std.proofs.Common.{◌≡◌, inl, inr, ℕ, ◌+◌, ◌<◌, ◌≤
 use Rattle.std.proofs.Common.{subst, ◌∙◌, arith}
 use Rattle.std.proofs.{lemmas.List.append-nil, lemmas.List.take-append-drop, lemmas.List.drop_more, lemmas.List.take_more, lemmas.List.Elements.All-nil}
 use Rattle.std.specs.{List.zip, Option.option_to_list}
-use Rattle.mc_protocol.specs.{Sections.section_of, declared.actor.Actor.Actor, declared.reply.Reply.Reply, declared.sections.Sections.Sections}
+use Rattle.mc_protocol.specs.{Sections.section_of, declared.actor.Actor.Actor, declared.event.Event.Event, declared.reply.Reply.Reply}
+use Rattle.mc_protocol.specs.declared.sections.Sections.{Sections}
 use Rattle.mc_protocol.specs.declared.actor.Actor.TheVariants as actor
+use Rattle.mc_protocol.specs.declared.event.Event.TheVariants as event
 use Rattle.mc_code.specs.{Code.Code, Code.IsCode, declared.instr.Call.Call}
 use Rattle.mc_model.specs.Notes as recorded
 use Rattle.mc_model.specs.declared.note.Note.TheVariants as note
 use Rattle.mc_sound.specs.Faults.{IsSound}
-use Rattle.mc_history.specs.declared.event.Event.{Event}
-use Rattle.mc_history.specs.declared.event.Event.TheVariants as event
 use Rattle.mc_core.specs.Fields.{replies_of, waiting_in, world_in, calls_of, note_in, noted_by, BeginsNamed, HaveRoom, AreBegun, CountsBegin}
 use Rattle.mc_core.specs.{declared.section.Section.Section, Histories.begin_count, Histories.no_call, Histories.recorded_after, Histories.recorded_from}
 use Rattle.mc_core.specs.{Logs.call_of, Logs.calls_in, Logs.request_of, Worlds.World, Worlds.Noted, Worlds.log_of, Worlds.event_of}

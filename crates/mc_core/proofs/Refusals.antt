@@ -1,13 +1,12 @@
 -- What is against an event, by how its section stands and what waits.
 use Rattle.std.proofs.Common.{◌≡◌, inl, inr, ◌<◌, ◌≤◌, Bool, true, false, Option, Some, None, refl, ap, sym, subst, ◌∙◌, arith, if◌then◌else◌}
-use Rattle.mc_protocol.specs.{Legal.is_fit_for, declared.actor.Actor.Actor}
+use Rattle.mc_protocol.specs.{Legal.is_fit_for, declared.actor.Actor.Actor, declared.event.Event.Event}
+use Rattle.mc_protocol.specs.declared.event.Event.TheVariants as event
 use Rattle.mc_code.specs.{Calls.template_of, Code.Code, declared.instr.Call.Call}
 use Rattle.mc_code.proofs.LookUps.{some_is}
 use Rattle.mc_core.specs.{declared.ending.Ending.Ending, declared.step_refusal.StepRefusal.StepRefusal, Fields.refusal_of, Fields.refusal_in, Fields.IsFree}
 use Rattle.mc_core.specs.{Steps.refusal_number, Steps.IsAgainst, Steps.IsRefused, Worlds.World, Worlds.log_of, Worlds.IsBegun, Worlds.IsEnding}
 use Rattle.mc_core.specs.declared.ending.Ending.TheVariants as ending
-use Rattle.mc_history.specs.declared.event.Event.{Event}
-use Rattle.mc_history.specs.declared.event.Event.TheVariants as event
 use Rattle.mc_core.specs.declared.step_refusal.StepRefusal.TheVariants as refusal
 
 -- ---- what is found

@@ -2,8 +2,10 @@
 use Rattle.std.proofs.Common.{◌≡◌, ◌⊎◌, inl, inr, ◌<◌, ◌≤◌, ◌^◌, Bool, true, false, if◌then◌else◌, List, [], ◌∷◌, ◌++◌, All, length, map, slice_index_or}
 use Rattle.std.proofs.{Common.refl, Common.ap, Common.sym, Common.subst, Common.arith, lemmas.List.Elements.All-head, lemmas.List.Elements.All-tail}
 use Rattle.std.specs.{List.flat_map, Option.option_to_list}
-use Rattle.mc_protocol.specs.{declared.actor.Actor.Actor, declared.limits.TheConstants.REQUESTS_LIMIT, declared.reply.Reply.Reply}
+use Rattle.mc_protocol.specs.{declared.actor.Actor.Actor, declared.event.Event.Event, declared.limits.TheConstants.REQUESTS_LIMIT}
+use Rattle.mc_protocol.specs.declared.reply.Reply.{Reply}
 use Rattle.mc_protocol.specs.declared.actor.Actor.TheVariants as actor
+use Rattle.mc_protocol.specs.declared.event.Event.TheVariants as event
 use Rattle.mc_code.specs.{Calls.IsCalling, Calls.exchange_of, Calls.template_of, Code.Code, Code.section_of, Runs.Exchange, Standing.BeginsAfter}
 use Rattle.mc_code.specs.{Standing.Leaves, States.Tagged, States.nothing, States.initial_state, declared.instr.Call.Call}
 use Rattle.mc_code.proofs.MadeCalls.{calls_stand}
@@ -11,8 +13,6 @@ use Rattle.mc_model.specs.Notes.{is_same_section}
 use Rattle.mc_sound.specs.{Costs.cost_along, Faults.IsSound}
 use Rattle.mc_sound.specs.declared.measure.Measure.TheVariants as measure
 use Rattle.mc_sound.proofs.Right.{sound_right}
-use Rattle.mc_history.specs.declared.event.Event.{Event}
-use Rattle.mc_history.specs.declared.event.Event.TheVariants as event
 use Rattle.mc_core.specs.Safety.{IsSmallEvent, IsSmallNote, AreSmall, IsRightRun, RanRight, bytes_of_all}
 use Rattle.mc_core.specs.{Laws.FoldsAreSafe, Laws.FoldsAreWithinRoom, Logs.Log, Logs.calls_in, Logs.events_of_pair, Logs.begin_of, Logs.exchanges_in}
 use Rattle.mc_core.specs.{Logs.IsRightLog, Worlds.World, Worlds.Noted, Worlds.log_of, Worlds.events_of, Worlds.exchanges_of, Worlds.IsBegun}

@@ -1,14 +1,13 @@
 -- Steps keep worlds right, and lead to one world.
 use Rattle.std.proofs.Common.{◌≡◌, ◌≢◌, ◌⊎◌, inl, inr, false, Option, Some, None, List, [], ◌∷◌, ◌++◌, refl, ap, sym, subst, ◌∙◌}
 use Rattle.std.proofs.lemmas.Bool.{true_from_ne_false}
-use Rattle.mc_protocol.specs.{Legal.is_fit_for, declared.actor.Actor.Actor}
+use Rattle.mc_protocol.specs.{Legal.is_fit_for, declared.actor.Actor.Actor, declared.event.Event.Event}
 use Rattle.mc_protocol.specs.declared.actor.Actor.TheVariants as actor
+use Rattle.mc_protocol.specs.declared.event.Event.TheVariants as event
 use Rattle.mc_code.specs.Standing.{BeginsAfter, ComesTo, Leaves, no_variables}
 use Rattle.mc_code.specs.{Calls.IsCalling, Calls.template_of, Code.Code, Runs.Exchange, States.Tagged, States.ended, declared.instr.Call.Call}
 use Rattle.mc_code.proofs.{LookUps.some_is, StandingLemmas.leaves_once, StandingLemmas.calls_once}
 use Rattle.mc_model.specs.Notes.{is_same_section}
-use Rattle.mc_history.specs.declared.event.Event.{Event}
-use Rattle.mc_history.specs.declared.event.Event.TheVariants as event
 use Rattle.mc_core.specs.Logs.{Log, new_log, events_in, with_call, with_reply, with_fault, IsRightLog}
 use Rattle.mc_core.specs.Worlds.{World, log_of, with_note, exchanges_of, BeginsIn, IsBegun, IsDone}
 use Rattle.mc_core.specs.{declared.step_refusal.StepRefusal.StepRefusal, Steps.IsRefused, Steps.IsNext, Steps.Follows, Steps.IsStep}

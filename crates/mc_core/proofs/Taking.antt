@@ -4,14 +4,13 @@ use Rattle.std.proofs.Common.{length-append, ℕ, ◌≤◌, IfSome}
 use Rattle.std.proofs.lemmas.List.{append-nil, length-map}
 use Rattle.std.proofs.{lemmas.Bool.true_from_ne_false, lemmas.List.Elements.All-push, lemmas.Slice.Zip.length-zip}
 use Rattle.std.specs.{Option.option_to_list, Vec.vec_len, Vec.vec_capacity}
-use Rattle.mc_protocol.specs.declared.sections.Sections.{Sections}
-use Rattle.mc_protocol.specs.{Legal.is_fit_for, Sections.section_of, declared.actor.Actor.Actor, declared.reply.Reply.Reply}
+use Rattle.mc_protocol.specs.{Legal.is_fit_for, Sections.section_of, declared.actor.Actor.Actor, declared.event.Event.Event}
+use Rattle.mc_protocol.specs.{declared.reply.Reply.Reply, declared.sections.Sections.Sections}
 use Rattle.mc_protocol.specs.declared.actor.Actor.TheVariants as actor
+use Rattle.mc_protocol.specs.declared.event.Event.TheVariants as event
 use Rattle.mc_code.specs.{Calls.IsCalling, Calls.template_of, Code.Code, Code.IsCode, Standing.ComesTo, States.ended, declared.instr.Call.Call}
 use Rattle.mc_machine.specs.{Machine.actor_of, Machine.outstanding_of, declared.machine.Machine.Machine}
 use Rattle.mc_sound.specs.Faults.{IsSound}
-use Rattle.mc_history.specs.declared.event.Event.{Event}
-use Rattle.mc_history.specs.declared.event.Event.TheVariants as event
 use Rattle.mc_core.specs.Fields.{replies_of, waiting_in, log_in, world_in, IsKept, IsFree, NamesATemplate, MayTake, Takes, SameCalls, LeavesAfter}
 use Rattle.mc_core.specs.Fields.{BranchesBegin, BranchesFollow, AfterOwn, AllTake, held_in, AreKept, refusal_in, MayStep}
 use Rattle.mc_core.specs.Worlds.{World, Noted, log_of, with_note, with_section, exchanges_of, IsEnding}

@@ -1,12 +1,12 @@
 -- The call that a section may begin.
 use Rattle.std.proofs.Common.{◌≡◌, ◌↔◌, ◌<◌, Option, Some, None, IfSome, List, length, refl, ap, sym, subst, ◌∙◌}
 use Rattle.mc_protocol.specs.{Sections.section_of, declared.actor.Actor.Actor, declared.sections.Sections.Sections}
+use Rattle.mc_protocol.specs.declared.event.Event.TheVariants as event
 use Rattle.mc_code.specs.{Calls.IsCalling, Code.Code, Runs.Exchange, Standing.ComesTo, States.Tagged, States.State, States.ended, declared.instr.Call.Call}
 use Rattle.mc_code.proofs.LookUps.{some_is}
 use Rattle.mc_machine.specs.Machine as machines
 use Rattle.mc_machine.specs.declared.machine.Machine.{Machine}
 use Rattle.mc_core.specs.declared.ending.Ending.TheVariants as ending
-use Rattle.mc_history.specs.declared.event.Event.TheVariants as event
 use Rattle.mc_core.specs.Fields.{GoesOn, IsUpcoming, MayTake, held_in, world_in}
 use Rattle.mc_core.specs.{declared.section.Section.Section, declared.step_refusal.StepRefusal.StepRefusal, Held.Held, Held.Stands, Steps.IsNext}
 use Rattle.mc_core.specs.{Steps.IsRefused, Steps.MayBegin, Worlds.World, Worlds.Noted, Worlds.exchanges_of, Worlds.IsEnding}

@@ -2,10 +2,11 @@
 use Rattle.std.specs.Prelude.{◌≡◌, ◌≢◌, ◌⊎◌, ℕ, ◌+◌, ◌*◌, ◌^◌, ◌<◌, ◌≤◌, Option, Some, None, List, [], ◌∷◌}
 use Rattle.std.specs.Prelude.{◌++◌, length, zip, flat_map, option_to_list, slice_index_or, if◌then◌else◌}
 use Rattle.std.specs.Vec.{vec_capacity, vec_len}
-use Rattle.mc_protocol.specs.{Legal.is_fit_for, Sections.section_of}
-use Rattle.mc_protocol.specs.declared.{actor.Actor.Actor, fault.Fault.Fault, limits.TheConstants.REQUESTS_LIMIT, reply.Reply.Reply}
+use Rattle.mc_protocol.specs.{Legal.is_fit_for, Sections.section_of, declared.actor.Actor.Actor, declared.event.Event.Event}
+use Rattle.mc_protocol.specs.{declared.fault.Fault.Fault, declared.limits.TheConstants.REQUESTS_LIMIT, declared.reply.Reply.Reply}
 use Rattle.mc_protocol.specs.declared.sections.Sections.{Sections}
 use Rattle.mc_protocol.specs.declared.actor.Actor.TheVariants as actor
+use Rattle.mc_protocol.specs.declared.event.Event.TheVariants as event
 use Rattle.mc_code.specs.{Calls.IsCalling, Calls.template_of, States.Tagged, States.State, States.ended, declared.instr.Call.Call}
 use Rattle.mc_code.specs.{Code.Code, Runs.Exchange, Standing.ComesTo}
 use Rattle.mc_machine.specs.Machine as machines
@@ -17,8 +18,6 @@ use Rattle.mc_core.specs.declared.{ending.Ending.Ending, section.Section.Section
 use Rattle.mc_core.specs.Worlds.{World, Noted, event_of, events_of, with_section}
 use Rattle.mc_core.specs.{Histories.begin_count, Histories.no_call, Logs.Log, Logs.request_of}
 use Rattle.mc_core.specs.declared.ending.Ending.TheVariants as ending
-use Rattle.mc_history.specs.declared.event.Event.{Event}
-use Rattle.mc_history.specs.declared.event.Event.TheVariants as event
 use Rattle.mc_core.specs.declared.step_refusal.StepRefusal.TheVariants as refusal
 use Rattle.mc_core.specs.{Held.Held, Safety.AreSmall, Steps.IsAgainst}
 

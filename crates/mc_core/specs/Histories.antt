@@ -1,12 +1,11 @@
 -- The history of a world: its calls and their replies, in the order in which they were noted. A fault leaves no note in it.
 use Rattle.std.specs.Prelude.{ℕ, ◌+◌, Some, None, List, [], ◌∷◌, ◌++◌, map, option_to_list, slice_index_or}
-use Rattle.mc_protocol.specs.declared.{actor.Actor.Actor, reply.Reply.Reply}
+use Rattle.mc_protocol.specs.{declared.actor.Actor.Actor, declared.event.Event.Event, declared.reply.Reply.Reply}
+use Rattle.mc_protocol.specs.declared.event.Event.TheVariants as event
 use Rattle.mc_code.specs.{Code.Code, declared.instr.Call.Call}
 use Rattle.mc_model.specs.Notes as recorded
 use Rattle.mc_model.specs.{Sections.Sections, declared.sent.Sent.Sent}
 use Rattle.mc_model.specs.declared.note.Note.TheVariants as note
-use Rattle.mc_history.specs.declared.event.Event.{Event}
-use Rattle.mc_history.specs.declared.event.Event.TheVariants as event
 use Rattle.mc_core.specs.{Logs.Log, Logs.calls_in, Logs.request_of, Worlds.World, Worlds.Noted, Worlds.log_of, Worlds.events_of}
 
 -- how many calls these events begin

@@ -11,8 +11,6 @@ pub use Rattle.mc_code.specs.Code
 pub use Rattle.mc_code.specs.Standing
 pub use Rattle.mc_sound.specs.Faults as CodeFaults
 pub use Rattle.mc_sound.specs.Flags
-pub use Rattle.mc_history.specs.StepKinds
-pub use Rattle.mc_history.specs.StepText
 pub use Rattle.mc_model.specs.Notes
 pub use Rattle.mc_model.specs.Words
 pub mod Logs

@@ -1,10 +1,10 @@
 -- Logs: what one section of code sent and received, and what ended it before its code did.
 use Rattle.std.specs.Prelude.{Option, Some, None, List, [], ◌∷◌, ◌++◌, map, flat_map, option_to_list, slice_index_or}
-use Rattle.mc_protocol.specs.declared.{actor.Actor.Actor, fault.Fault.Fault, reply.Reply.Reply, request.Request.Request}
+use Rattle.mc_protocol.specs.{declared.actor.Actor.Actor, declared.event.Event.Event, declared.fault.Fault.Fault}
+use Rattle.mc_protocol.specs.{declared.reply.Reply.Reply, declared.request.Request.Request}
+use Rattle.mc_protocol.specs.declared.event.Event.TheVariants as event
 use Rattle.mc_code.specs.{Calls.IsCalling, Calls.MakesAll, Calls.exchange_of, Calls.template_of, declared.instr.Call.Call}
 use Rattle.mc_code.specs.{Code.Code, Requests.request_with, Runs.Exchange, States.Tagged}
-use Rattle.mc_history.specs.declared.event.Event.{Event}
-use Rattle.mc_history.specs.declared.event.Event.TheVariants as event
 
 pub record Log : Type 0 where
   -- the calls that have replies, with them, in order

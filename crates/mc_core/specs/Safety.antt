@@ -1,15 +1,14 @@
 -- What holds of every world of sound code, whatever its events are.
 use Rattle.std.specs.Prelude.{◌≡◌, ◌⊎◌, ℕ, ◌+◌, ◌<◌, ◌≤◌, ◌^◌, Option, Some, None, List, [], ◌∷◌, ◌++◌, length, map, All}
-use Rattle.mc_protocol.specs.{Merge.IsMerge, Texts.request_text}
-use Rattle.mc_protocol.specs.declared.{actor.Actor.Actor, fault.Fault.Fault, reply.Reply.Reply}
+use Rattle.mc_protocol.specs.{Merge.IsMerge, Texts.request_text, declared.actor.Actor.Actor, declared.event.Event.Event}
+use Rattle.mc_protocol.specs.{declared.fault.Fault.Fault, declared.reply.Reply.Reply}
 use Rattle.mc_protocol.specs.declared.actor.Actor.TheVariants as actor
 use Rattle.mc_protocol.specs.declared.reply.Reply.TheVariants as reply
+use Rattle.mc_protocol.specs.declared.event.Event.TheVariants as event
 use Rattle.mc_script.specs.declared.step.Template.{Template}
 use Rattle.mc_code.specs.Standing.{StandsAt, IsRightAlong}
 use Rattle.mc_code.specs.{Calls.template_of, Code.Code, Code.section_of, States.Tagged, States.State, declared.instr.Call.Call}
 use Rattle.mc_sound.specs.Flags.{IsAdmitted, all_clear}
-use Rattle.mc_history.specs.declared.event.Event.{Event}
-use Rattle.mc_history.specs.declared.event.Event.TheVariants as event
 use Rattle.mc_core.specs.Logs.{new_log, calls_in, answered_in, events_in, request_of, IsRightLog}
 use Rattle.mc_core.specs.Worlds.{World, Noted, log_of, events_of, exchanges_of, BeginsIn, IsBegun}
 

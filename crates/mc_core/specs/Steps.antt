@@ -1,10 +1,9 @@
 -- Steps of a world: which events it takes, and what each does; and the fold of a list of events.
 use Rattle.std.specs.Prelude.{◌≡◌, ◌⊎◌, ℕ, ◌+◌, ◌<◌, false, Some, None, List, [], ◌∷◌}
-use Rattle.mc_protocol.specs.{Legal.is_fit_for, declared.actor.Actor.Actor, declared.fault.Fault.Fault}
+use Rattle.mc_protocol.specs.{Legal.is_fit_for, declared.actor.Actor.Actor, declared.event.Event.Event, declared.fault.Fault.Fault}
+use Rattle.mc_protocol.specs.declared.event.Event.TheVariants as event
 use Rattle.mc_code.specs.{Calls.IsCalling, Calls.template_of, declared.instr.Call.Call}
 use Rattle.mc_code.specs.{Code.Code, States.Tagged}
-use Rattle.mc_history.specs.declared.event.Event.{Event}
-use Rattle.mc_history.specs.declared.event.Event.TheVariants as event
 use Rattle.mc_core.specs.Worlds.{World, Noted, new_world, log_of, with_note, exchanges_of, BeginsIn, IsBegun, IsDone}
 use Rattle.mc_core.specs.{declared.step_refusal.StepRefusal.StepRefusal, Logs.with_call, Logs.with_reply, Logs.with_fault}
 use Rattle.mc_core.specs.declared.step_refusal.StepRefusal.TheVariants as refusal

@@ -1,11 +1,11 @@
 -- Worlds: what happened in three sections of code, and how each of them stands.
 use Rattle.std.specs.Prelude.{◌≡◌, Some, None, List, [], ◌∷◌, ◌++◌, flat_map, if◌then◌else◌}
-use Rattle.mc_protocol.specs.{declared.actor.Actor.Actor, declared.sections.Sections.Sections, Sections.section_of}
+use Rattle.mc_protocol.specs.{Sections.section_of, declared.actor.Actor.Actor, declared.event.Event.Event}
+use Rattle.mc_protocol.specs.declared.sections.Sections.{Sections}
 use Rattle.mc_protocol.specs.declared.actor.Actor.TheVariants as actor
 use Rattle.mc_code.specs.{Code.Code, Runs.Exchange}
 use Rattle.mc_code.specs.{Standing.BeginsAfter, Standing.ComesTo, States.Tagged, States.State, States.ended}
 use Rattle.mc_model.specs.Notes.{is_same_section}
-use Rattle.mc_history.specs.declared.event.Event.{Event}
 use Rattle.mc_core.specs.{declared.ending.Ending.Ending, Logs.Log, Logs.new_log, Logs.exchanges_in}
 use Rattle.mc_core.specs.declared.ending.Ending.TheVariants as ending
 

@@ -4,8 +4,7 @@ ghost use Rattle.mc_core.specs.{Held.IsHeldBy, Safety.IsSafe, Steps.IsFold, Worl
 
 use crate::World;
 use crate::world::know_code;
-use mc_history::Event;
-use mc_protocol::{Actor, OutOfMemory};
+use mc_protocol::{Actor, Event, OutOfMemory};
 use mc_sound::Checked;
 use std::alloc::Global;
 

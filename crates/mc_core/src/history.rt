@@ -9,9 +9,8 @@ use crate::World;
 use crate::section::Section;
 use crate::world::know_code;
 use mc_code::Code;
-use mc_history::Event;
 use mc_model::{History, HistoryKind, Note, copy_reply};
-use mc_protocol::{Actor, OutOfMemory, Sections};
+use mc_protocol::{Actor, Event, OutOfMemory, Sections};
 use mc_sound::Checked;
 use std::alloc::{AllocError, Global};
 

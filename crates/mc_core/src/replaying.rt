@@ -6,9 +6,8 @@ ghost use Rattle.mc_core.specs.Held.{FindsFold};
 use crate::section::Section;
 use crate::{World, drive};
 use mc_code::Call;
-use mc_history::Event;
 use mc_model::copy_reply;
-use mc_protocol::{Actor, Fault, OutOfMemory, Sections};
+use mc_protocol::{Actor, Event, Fault, OutOfMemory, Sections};
 use mc_sound::Checked;
 use std::alloc::Global;
 

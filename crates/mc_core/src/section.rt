@@ -8,9 +8,8 @@ ghost use Rattle.mc_code.specs.States.{Tagged};
 
 use crate::{Ending, StepRefusal};
 use mc_code::{Call, Code};
-use mc_history::Event;
 use mc_machine::Machine;
-use mc_protocol::{Actor, Fault, OutOfMemory, REQUESTS_LIMIT, Reply, Sections, may_answer};
+use mc_protocol::{Actor, Event, Fault, OutOfMemory, REQUESTS_LIMIT, Reply, Sections, may_answer};
 use mc_script::VARIABLES_LIMIT;
 use mc_sound::Checked;
 use std::alloc::Global;

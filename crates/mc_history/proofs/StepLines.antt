@@ -1,13 +1,14 @@
 -- Lines of a step list: each spells at most one step, and the line `end` none.
 use Rattle.std.proofs.Common.{◌≡◌, ℕ, ◌==◌, if◌then◌else◌, [], ◌∷◌, codes, refl, sym, ap, subst, ◌∙◌}
 use Rattle.std.specs.Str.Parse.{digits_value}
-use Rattle.mc_protocol.specs.{declared.actor.Actor.Actor, declared.fault.Fault.Fault, Faults.fault_number, Lines.Words}
+use Rattle.mc_protocol.specs.{Faults.fault_number, Lines.Words, declared.actor.Actor.Actor, declared.event.Event.Event}
+use Rattle.mc_protocol.specs.declared.fault.Fault.{Fault}
 use Rattle.mc_protocol.specs.declared.fault.Fault.TheVariants as fault
 use Rattle.mc_protocol.proofs.{ActorWords.actor_is_not_end, FirstItems.head_is, FirstItems.rest_is}
+use Rattle.mc_protocol.specs.declared.event.Event.TheVariants as event
 use Rattle.mc_model.specs.Words.{SpellsReply}
 use Rattle.mc_model.proofs.ReplyWords.{one_reply}
-use Rattle.mc_history.specs.{declared.event.Event.Event, HistoryText.end_line, StepText.SpellsEvent, StepText.SpellsStep, StepReading.SpellsFault}
-use Rattle.mc_history.specs.declared.event.Event.TheVariants as event
+use Rattle.mc_history.specs.{HistoryText.end_line, StepText.SpellsEvent, StepText.SpellsStep, StepReading.SpellsFault}
 use Rattle.mc_history.proofs.LineLemmas.{begin_is_not_reply}
 
 -- ---- first words

@@ -1,10 +1,11 @@
 -- The lines of a step list: what a text spells is what is read of it, line by line.
 use Rattle.std.proofs.Common.{◌≡◌, ℕ, ◌+◌, ◌≤◌, List, [], ◌∷◌, ◌++◌, length, refl, sym, ap, subst, ◌∙◌, length-append, arith}
-use Rattle.mc_protocol.specs.{declared.actor.Actor.Actor, declared.lines.Separator.TheVariants.Space, Lines.words_of_text, Lines.Words, Spelling.SpellEach}
+use Rattle.mc_protocol.specs.{Lines.words_of_text, Lines.Words, Spelling.SpellEach, declared.actor.Actor.Actor, declared.event.Event.Event}
+use Rattle.mc_protocol.specs.declared.lines.Separator.TheVariants.{Space}
 use Rattle.mc_protocol.proofs.FirstItems.{head_is, rest_is}
 use Rattle.mc_history.specs.declared.step_text.TheConstants.{STEP_LIST_LIMIT}
 use Rattle.mc_history.specs.StepText.{SpellsEvent, SpellsStep, SpellsSteps, SpellsOneStepList, steps_line}
-use Rattle.mc_history.specs.{declared.event.Event.Event, HistoryText.end_line, StepReading.steps, StepReading.AfterSteps, StepReading.SpellsOnward}
+use Rattle.mc_history.specs.{HistoryText.end_line, StepReading.steps, StepReading.AfterSteps, StepReading.SpellsOnward}
 use Rattle.mc_history.proofs.Reading.{IsReadable, Along, after_listed, series_of, parts_of, one_series}
 use Rattle.mc_history.proofs.{LineLemmas.one_line, StepLines.one_event, StepLines.step_is_not_end}
 

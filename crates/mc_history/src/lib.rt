@@ -8,7 +8,6 @@
 //! take the lemmas on lines from `bstr`.
 #![tactic(auto)]
 
-mod event;
 mod explanation;
 mod fault;
 mod lines;
@@ -27,7 +26,6 @@ mod steps_fault;
 mod text;
 mod text_laws;
 
-pub use event::Event;
 pub use explanation::{Explanation, Move};
 pub use fault::{HistoryFault, TextFault, TextKind};
 pub use lines::{finish, next_due};

@@ -1,13 +1,13 @@
 //! Reads the text of a step list.
 ghost use Rattle.std.specs.Prelude.{◌≡◌, ◌≢◌, ◌≤◌, ◌↔◌, List, [], ◌∷◌, IfOk, IfErr, OnOk};
-ghost use Rattle.mc_protocol.specs.{declared.actor.Actor.Actor, Lines.Words};
+ghost use Rattle.mc_protocol.specs.{Lines.Words, declared.actor.Actor.Actor, declared.event.Event.Event};
 ghost use Rattle.mc_history.specs.StepText.{SpellsSteps, steps_line};
-ghost use Rattle.mc_history.specs.{Refuses.Refuses, StepReading.SpellsOnward, declared.event.Event.Event};
+ghost use Rattle.mc_history.specs.{Refuses.Refuses, StepReading.SpellsOnward};
 
 use crate::lines::{finish, next_due};
 use crate::step_lines::read_step;
-use crate::{Event, Expected, StepsFault, StepsKind};
-use mc_protocol::{Actor, Separator, WordLines};
+use crate::{Expected, StepsFault, StepsKind};
+use mc_protocol::{Actor, Event, Separator, WordLines};
 use std::alloc::Global;
 
 /// The most steps of a step list.

@@ -1,4 +1,4 @@
-//! What every other crate speaks of: the sections of a run and their faults, requests and replies of memcached's
+//! What every other crate speaks of: the sections of a run, their events and faults, requests and replies of memcached's
 //! classic text protocol, how a text falls into lines and words, names and decimals, and the limits.
 //!
 //! Below it stands std alone, and `bstr` for the lines of a text. The crates above use its definitions: which
@@ -10,6 +10,7 @@
 mod actor;
 mod bytes;
 mod decimal;
+mod event;
 mod fault;
 mod fault_kind;
 mod legal_replies;
@@ -26,6 +27,7 @@ mod word_lines;
 pub use actor::Actor;
 pub use bytes::Bytes;
 pub use decimal::{DecimalFault, has_digits_alone, is_digit, read_decimal, value_of_digits};
+pub use event::Event;
 pub use fault::Fault;
 pub use fault_kind::{FaultKind, fault_of_input};
 pub use legal_replies::{fits, legal, may_answer, shows_number};

@@ -1,9 +1,8 @@
 -- What comes of the begin of a call that a section may begin.
 use Rattle.std.proofs.Common.{◌≡◌, true, Result, Ok, Err, IfErr, is_ok, refl}
-use Rattle.mc_protocol.specs.declared.actor.Actor.{Actor}
+use Rattle.mc_protocol.specs.{declared.actor.Actor.Actor, declared.event.Event.Event}
+use Rattle.mc_protocol.specs.declared.event.Event.TheVariants as event
 use Rattle.mc_code.specs.{Code.Code, declared.instr.Call.Call}
-use Rattle.mc_history.specs.declared.event.Event.{Event}
-use Rattle.mc_history.specs.declared.event.Event.TheVariants as event
 use Rattle.mc_core.specs.{declared.step_refusal.StepRefusal.StepRefusal, Steps.IsRefused, Steps.MayBegin, Worlds.World}
 
 -- it isn't refused

@@ -1,6 +1,5 @@
 -- Lanes that grow by calls.
-use Rattle.mc_protocol.specs.{Texts.request_text, declared.request.Request.Request}
-use Rattle.mc_history.specs.declared.event.Event.{Event}
+use Rattle.mc_protocol.specs.{Texts.request_text, declared.event.Event.Event, declared.request.Request.Request}
 use Rattle.mc_lane.specs.Lanes.{LaneRecord}
 use Rattle.mc_run.specs.Running.{Grew, none, call, ComesOver}
 

@@ -4,14 +4,10 @@ pub use Rattle.mc_core.specs.Histories
 pub use Rattle.mc_core.specs.Safety
 pub use Rattle.mc_core.specs.Steps
 pub use Rattle.mc_core.specs.Worlds
-pub use Rattle.mc_claims.specs.Explains
-pub use Rattle.mc_explain.specs.Verdicts
 pub use Rattle.mc_lane.specs.Lanes
 pub use Rattle.mc_recorded.specs.Recorded
 pub mod Agreement
 pub mod Books
-pub mod Headline
 pub mod Holders
-pub mod Judged
 pub mod Laws
 pub mod Running

@@ -1,9 +1,8 @@
 -- What running threads ask for, and what comes of a call.
 use Rattle.std.specs.Prelude.{◌≡◌, ℕ, false, Result, Ok, Err, List, []}
-use Rattle.mc_protocol.specs.{Lines.Word, Texts.request_text, declared.fault.Fault.Fault, declared.reply.Reply.Reply}
-use Rattle.mc_protocol.specs.{declared.request.Request.Request, declared.request.Verb.Verb}
-use Rattle.mc_history.specs.declared.event.Event.{Event}
-use Rattle.mc_history.specs.declared.event.Event.TheVariants as event
+use Rattle.mc_protocol.specs.{Lines.Word, Texts.request_text, declared.event.Event.Event, declared.fault.Fault.Fault}
+use Rattle.mc_protocol.specs.{declared.reply.Reply.Reply, declared.request.Request.Request, declared.request.Verb.Verb}
+use Rattle.mc_protocol.specs.declared.event.Event.TheVariants as event
 use Rattle.mc_lane.specs.Lanes.{LaneRecord, is_closed, Calls}
 use Rattle.mc_run.specs.Agreement.{LaneRecords}
 

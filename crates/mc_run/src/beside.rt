@@ -2,17 +2,15 @@
 ghost use Rattle.std.specs.Arc.{arc_value};
 ghost use Rattle.std.specs.Prelude.{◌≡◌, IfOk};
 ghost use Rattle.mc_core.specs.{Held.IsHeldBy, Histories.history_of};
-ghost use Rattle.mc_explain.specs.Verdicts.{IsWithin};
-ghost use Rattle.mc_run.specs.{Agreement.Agree, Judged.IsJudged};
+ghost use Rattle.mc_run.specs.Agreement.{Agree};
 
 use crate::agreement::find_agreed;
 use crate::desk::{Table, Task};
 use crate::meeting::Meeting;
 use crate::notebook::Notebook;
-use crate::run::judge_history;
 use crate::running::{both_have_calls, run_in_turn};
 use crate::section::{Part, run_section};
-use crate::{Book, Branch, Desk, Gate, Judged, Lanes, Meet, Run, RunError};
+use crate::{Book, Branch, Desk, Gate, Lanes, Meet, Run, RunError};
 use mc_lane::{Lane, Stream};
 use mc_model::History;
 use mc_protocol::Actor;
@@ -20,38 +18,13 @@ use mc_sound::Checked;
 use std::alloc::{AllocError, Global};
 use std::sync::{Arc, Mutex, Wait};
 
-/// Runs sound code over three lanes, as [`play`](crate::play), but makes no thread: `meet.apart` runs on the thread that is at the
-/// desk's other end, all else on this one.
+/// Runs sound code over three lanes, as [`run_lanes_with`](crate::run_lanes_with), but makes no thread: `meet.apart` runs on the thread
+/// that is at the desk's other end, all else on this one.
 ///
 /// # Errors
 ///
-/// Why there is no run, or that memory ran out before there was a verdict: see [`RunError`]. Where the other thread has stopped, there
-/// is no thread.
-pub fn play_beside<S: Stream, G: Gate, R: Wait>(
-    rt: &R,
-    alloc: Global,
-    checked: &Arc<Checked, Global>,
-    lanes: Lanes<S>,
-    gate: &G,
-    desk: &Desk<S>,
-    meet: Meet,
-    limit: u64,
-) -> Result<Judged<S>, RunError>
-    ensures judged { IfOk result (λ j. IsJudged (arc_value checked.now).code j.run.world j.run.lanes j.history j.verdict) }
-    ensures turns { IfOk result (λ j. IsWithin limit j.verdict j.turns) }
-{
-    let (run, history) = run_beside(rt, alloc, checked, lanes, gate, desk, meet)?;
-    let (verdict, turns) = judge_history(alloc, checked, &run.world, &history, limit)?;
-    Ok(Judged {
-        run,
-        history,
-        verdict,
-        turns,
-    })
-}
-
-/// The run, with its history.
-fn run_beside<S: Stream, G: Gate, R: Wait>(
+/// Why there is no run: see [`RunError`]. Where the other thread has stopped, there is no thread.
+pub fn run_beside<S: Stream, G: Gate, R: Wait>(
     rt: &R,
     alloc: Global,
     checked: &Arc<Checked, Global>,

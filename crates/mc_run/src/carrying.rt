@@ -5,9 +5,8 @@ ghost use Rattle.mc_protocol.specs.Texts.{request_text};
 ghost use Rattle.mc_run.specs.Running.{ComesOver};
 
 use mc_code::{Call, Code};
-use mc_history::Event;
 use mc_lane::{Lane, Stream};
-use mc_protocol::{OutOfMemory, Request, render_request};
+use mc_protocol::{Event, OutOfMemory, Request, render_request};
 use mc_reader::Shape;
 use std::alloc::Global;
 

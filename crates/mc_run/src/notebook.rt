@@ -8,8 +8,7 @@ use crate::carrying::Prepared;
 use crate::holder::Holder;
 use mc_code::Call;
 use mc_core::World;
-use mc_history::Event;
-use mc_protocol::Actor;
+use mc_protocol::{Actor, Event};
 
 /// The book of a run, as its sections have it. No other note can be made in it than these two, so no call is noted to begin that wasn't
 /// made ready.

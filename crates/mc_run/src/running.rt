@@ -49,31 +49,13 @@ pub fn run_lanes<S: Stream + Send, G: Gate, R: Threads + Wait + Sync>(
         apart: Branch::A,
         late: None,
     };
-    run_lanes_with(rt, alloc, checked, lanes, gate, Stack::new(), meet)
-}
-
-/// The same, where the thread of a branch has this stack, and `meet` says which branch that is, how the branches wait for each other,
-/// and which of them is late.
-pub fn run_lanes_with<S: Stream + Send, G: Gate, R: Threads + Wait + Sync>(
-    rt: &R,
-    alloc: Global,
-    checked: &Checked,
-    lanes: Lanes<S>,
-    gate: &G,
-    stack: Stack,
-    meet: Meet,
-) -> Result<Run<S>, RunError>
-    requires new { AreNew lanes }
-    ensures agrees { IfOk result (λ run. Agree checked.now.code run.world.world run.lanes) }
-    ensures grew { IfOk result (λ run. AllGrew lanes run.lanes) }
-    ensures held { IfOk result (λ run. IsHeldBy checked.now.code run.world) }
-{
-    let (run, _) = run_agreed(rt, alloc, checked, lanes, gate, stack, meet)?;
+    let (run, _) = run_lanes_with(rt, alloc, checked, lanes, gate, Stack::new(), meet)?;
     Ok(run)
 }
 
-/// The same with the run's history, which was made to compare the notes with the lanes.
-pub(crate) fn run_agreed<S: Stream + Send, G: Gate, R: Threads + Wait + Sync>(
+/// The same with the run's history, where the thread of a branch has this stack, and `meet` says which branch that is, how the branches
+/// wait for each other, and which of them is late.
+pub fn run_lanes_with<S: Stream + Send, G: Gate, R: Threads + Wait + Sync>(
     rt: &R,
     alloc: Global,
     checked: &Checked,

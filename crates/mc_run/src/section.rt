@@ -6,9 +6,8 @@ use crate::Gate;
 use crate::carrying::{Prepared, carry, prepare};
 use crate::meeting::{Seat, come_after_begin, come_before_begin};
 use crate::notebook::Notebook;
-use mc_history::Event;
 use mc_lane::{Lane, Stream};
-use mc_protocol::{Actor, Fault, REQUESTS_LIMIT};
+use mc_protocol::{Actor, Event, Fault, REQUESTS_LIMIT};
 use std::alloc::Global;
 use std::sync::{Mutex, Wait};
 

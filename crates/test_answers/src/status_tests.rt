@@ -3,9 +3,9 @@
 use crate::driven::{SCRIPT, STEPS_OF_P};
 use mc_answers::run_status;
 use mc_code::assemble;
-use mc_core::parse_steps;
-use mc_run::trial;
+use mc_history::parse_steps;
 use mc_script_text::parse;
+use mc_trial::trial;
 use mc_verify::{Checked, verify};
 use std::alloc::Global;
 use std::test::Fail;

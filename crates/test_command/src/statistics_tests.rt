@@ -1,9 +1,9 @@
 //! The statistics of runs whose histories are known. The numbers were counted by hand.
 
 use mc_command::Statistics;
-use mc_history::{Event, parse_history};
+use mc_history::parse_history;
 use mc_model::{Note, copy_reply};
-use mc_protocol::{Actor, Fault, OutOfMemory, Reply};
+use mc_protocol::{Actor, Event, Fault, OutOfMemory, Reply};
 use std::alloc::Global;
 use std::test::Fail;
 

@@ -1,9 +1,9 @@
 //! Which texts are step lists.
 
 use crate::memory::again;
-use mc_history::{Event, parse_steps};
+use mc_history::parse_steps;
 use mc_model::print_reply_words;
-use mc_protocol::{Actor, Fault, OutOfMemory, Reply, append_all};
+use mc_protocol::{Actor, Event, Fault, OutOfMemory, Reply, append_all};
 use std::alloc::Global;
 use std::test::Fail;
 

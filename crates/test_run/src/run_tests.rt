@@ -15,6 +15,7 @@ use mc_lane::MemoryStream;
 use mc_protocol::{Fault, OutOfMemory};
 use mc_run::{Lanes, Run, agrees};
 use mc_sound::Checked;
+use mc_trial::judge_run;
 use std::alloc::Global;
 use std::sync::Wait;
 use std::test::Fail;
@@ -226,7 +227,7 @@ fn is_judged_as(
 ) -> Result<bool, Fail>
     requires { IsHeldBy counter.now.code run.now.world }
 {
-    let (_, found, _) = again(|| run.judge(alloc, counter, limit))?;
+    let (_, found, _) = again(|| judge_run(alloc, counter, run, limit))?;
     Ok(is_written(alloc, &found, verdict)?)
 }
 

@@ -7,6 +7,7 @@ use Ending::{Done, Failed, NotBegun};
 use core::thread::Stack;
 use mc_core::Ending;
 use mc_lane::MemoryStream;
+use mc_model::History;
 use mc_protocol::Fault;
 use mc_run::{FreeGate, Meet, Run, RunError, run_lanes_with};
 use mc_sound::Checked;
@@ -111,9 +112,9 @@ fn run_threadless<R: Threads + Wait + Sync>(
     Ok(came_of(found)?)
 }
 
-fn came_of(found: Result<Run<MemoryStream>, RunError>) -> Result<Came, AllocError> {
+fn came_of(found: Result<(Run<MemoryStream>, History), RunError>) -> Result<Came, AllocError> {
     match found {
-        Ok(run) => Ok(Ok(endings_with_memory(&run)?)),
+        Ok((run, _)) => Ok(Ok(endings_with_memory(&run)?)),
         Err(RunError::OutOfMemory) => Err(AllocError),
         Err(error) => Ok(Err(error)),
     }

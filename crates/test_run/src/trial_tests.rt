@@ -6,8 +6,8 @@ use crate::memory::again;
 use crate::verdict::is_written;
 use mc_protocol::Actor::*;
 use mc_protocol::{Actor, Fault};
-use mc_run::trial;
 use mc_sound::Checked;
+use mc_trial::trial;
 use std::alloc::Global;
 use std::test::Fail;
 

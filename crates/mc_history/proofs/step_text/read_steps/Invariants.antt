@@ -1,7 +1,7 @@
 use Rattle.std.proofs.Common.{◌↔◌, ◌≤◌, List, length}
-use Rattle.mc_protocol.specs.declared.actor.Actor.{Actor}
+use Rattle.mc_protocol.specs.{declared.actor.Actor.Actor, declared.event.Event.Event}
 use Rattle.mc_history.specs.declared.step_text.TheConstants.{STEP_LIST_LIMIT}
-use Rattle.mc_history.specs.{declared.event.Event.Event, Series.Series, StepReading.steps, StepReading.AfterSteps, StepReading.SpellsOnward}
+use Rattle.mc_history.specs.{Series.Series, StepReading.steps, StepReading.AfterSteps, StepReading.SpellsOnward}
 use Rattle.mc_history.proofs.step_text.read_steps.Given as goal
 
 abbrev pub invariant-steps : goal.invariant-steps

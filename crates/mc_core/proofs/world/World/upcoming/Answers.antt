@@ -1,6 +1,6 @@
 use Rattle.std.proofs.Common.{◌≡◌, Some, None, sym, subst, ◌∙◌}
 use Rattle.mc_code.specs.declared.instr.Call.{Call}
-use Rattle.mc_history.specs.declared.event.Event.TheVariants as event
+use Rattle.mc_protocol.specs.declared.event.Event.TheVariants as event
 use Rattle.mc_core.specs.{Fields.MayTake, Steps.MayBegin}
 use Rattle.mc_core.proofs.Upcoming.{begins_upcoming, begins_exactly, begins_none, begins_named}
 use Rattle.mc_core.proofs.{Taking.goes, Taking.may_take, world.World.upcoming.Goals.After-upcoming}

@@ -1,6 +1,6 @@
 //! What may happen in a section.
 
-use mc_protocol::{Fault, Reply};
+use crate::{Fault, Reply};
 
 /// An event of a section.
 #[derive(Debug, Drop, PartialEq)]

@@ -2,12 +2,11 @@
 ghost use Rattle.std.specs.Prelude.{IfOk};
 ghost use Rattle.mc_core.specs.{Held.IsHeldBy, Histories.history_of};
 ghost use Rattle.mc_explain.specs.Verdicts.{IsStated};
-ghost use Rattle.mc_run.specs.Headline.{IsTrial};
+ghost use Rattle.mc_trial.specs.Headline.{IsTrial};
 
 use mc_core::{World, drive};
 use mc_explain::{Verdict, judge};
-use mc_history::Event;
-use mc_protocol::{Actor, OutOfMemory};
+use mc_protocol::{Actor, Event, OutOfMemory};
 use mc_sound::Checked;
 use std::alloc::Global;
 
