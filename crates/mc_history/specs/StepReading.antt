@@ -1,9 +1,9 @@
 -- What the lines that are left of a step list spell, and when a reader of them gives up. No public contract cites these:
 -- they say of a part what `StepText.antt` says of the whole.
 use Rattle.std.specs.Prelude.{◌≡◌, ◌<◌, ◌≤◌, List, [], ◌∷◌, length}
-use Rattle.mc_protocol.specs.declared.{actor.Actor.Actor, fault.Fault.Fault}
+use Rattle.mc_protocol.specs.declared.{actor.Actor.Actor, event.Event.Event, fault.Fault.Fault}
 use Rattle.mc_protocol.specs.{Decimals.SpellsNumber, Decimals.MAX_64, Faults.fault_number, Lines.Word, Lines.Words}
-use Rattle.mc_history.specs.declared.{event.Event.Event, step_text.TheConstants.STEP_LIST_LIMIT}
+use Rattle.mc_history.specs.declared.step_text.TheConstants.{STEP_LIST_LIMIT}
 use Rattle.mc_history.specs.Series.{Form, Series, listed}
 use Rattle.mc_history.specs.{HistoryText.end_line, StepText.SpellsStep}
 

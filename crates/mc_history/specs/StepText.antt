@@ -1,11 +1,11 @@
 -- The text of a step list.
 use Rattle.std.specs.Prelude.{◌≡◌, ℕ, ◌≤◌, List, [], ◌∷◌, ◌++◌, length, codes}
-use Rattle.mc_protocol.specs.declared.{actor.Actor.Actor, lines.Separator.TheVariants.Space}
+use Rattle.mc_protocol.specs.declared.{actor.Actor.Actor, event.Event.Event, lines.Separator.TheVariants.Space}
 use Rattle.mc_protocol.specs.{Decimals.SpellsNumber, Decimals.MAX_64, Lines.words_of_text, Lines.Word, Lines.Words}
 use Rattle.mc_protocol.specs.{Faults.fault_number, Spelling.SpellEach}
 use Rattle.mc_protocol.specs.declared.event.Event.TheVariants as event
 use Rattle.mc_model.specs.Words.{SpellsReply}
-use Rattle.mc_history.specs.declared.{event.Event.Event, step_text.TheConstants.STEP_LIST_LIMIT}
+use Rattle.mc_history.specs.declared.step_text.TheConstants.{STEP_LIST_LIMIT}
 use Rattle.mc_history.specs.HistoryText.{SpellsLine, end_line}
 
 -- `begin`; or `reply`, and the words of the reply; or `fail`, and the number of the fault
