@@ -17,7 +17,7 @@ use Rattle.mc_counterexample.specs.{Replays.IsAnswered, Replays.first_places, Re
 use Rattle.mc_counterexample.specs.{Replays.LeadsFrom, declared.cost_replay.CostReplay.CostReplay}
 use Rattle.mc_verify.specs.Shown.{replies_along, front, IsBegun}
 use Rattle.mc_counterexample.proofs.{Settling.sends_rest_at, Settling.sends_once_at, Settling.answered_later, InterleavingSteps.goes_once}
-use Rattle.mc_counterexample.proofs.{InterleavingSteps.way_begins, InterleavingSteps.way_follows, InterleavingEnds.no_way}
+use Rattle.mc_counterexample.proofs.{InterleavingSteps.interleaving_begins, InterleavingSteps.interleaving_follows, InterleavingEnds.no_interleaving}
 
 -- ---- merges
 
@@ -42,15 +42,15 @@ exceeds_next : (c : Code) (measure : Measure) (named : Actor) (place : ℕ) (rep
     (rest : List (Actor × Class)) → CostsGoOn c measure named replay actor t class next → ExceedsFrom c measure named place replay ((actor, class) ∷ rest)
     → ExceedsFrom c measure named place next rest
 exceeds_next c measure named place replay next who t class rest on exceeds =
-    let begins = way_begins c named replay.places place who class exceeds.way rest exceeds.leads exceeds.shown_is in
+    let begins = interleaving_begins c named replay.places place who class exceeds.interleaving rest exceeds.leads exceeds.shown_is in
     let same = goes_once c named replay.places who begins.t t class begins.others next.places begins.goes on.goes in
-    let cost : cost_in c measure named exceeds.way ≡ own_cost c measure named who t + cost_in c measure named begins.more =
-    ap (cost_in c measure named) begins.way_is ∙ ap (λ t. own_cost c measure named who t + cost_in c measure named begins.more) same.0 in
+    let cost : cost_in c measure named exceeds.interleaving ≡ own_cost c measure named who t + cost_in c measure named begins.more =
+    ap (cost_in c measure named) begins.interleaving_is ∙ ap (λ t. own_cost c measure named who t + cost_in c measure named begins.more) same.0 in
     let more = exceeds.exceeds in
     let sum = on.cost in
     record {
       t = exceeds.t;
-      way = begins.more;
+      interleaving = begins.more;
       shown_is = begins.rest_is;
       leads = subst (λ places. LeadsFrom c places named place begins.more) same.1 begins.leads;
       sends = exceeds.sends;
@@ -65,9 +65,9 @@ exceeds_before c measure named place replay next who t class rest on exceeds =
     let sum = on.cost in
     record {
       t = exceeds.t;
-      way = (who, (t, class)) ∷ exceeds.way;
+      interleaving = (who, (t, class)) ∷ exceeds.interleaving;
       shown_is = ap (λ shown. (who, class) ∷ shown) exceeds.shown_is;
-      leads = way_follows c named replay.places place who t class next.places exceeds.way on.goes exceeds.leads;
+      leads = interleaving_follows c named replay.places place who t class next.places exceeds.interleaving on.goes exceeds.leads;
       sends = exceeds.sends;
       exceeds = omega (arith, more, sum);
     }
@@ -83,7 +83,7 @@ pub exceeds_none : (c : Code) (measure : Measure) (named : Actor) (replay : Cost
     → ((t : Template) (others : Sections ℕ) → GoesOn c named replay.places actor t class others → ⊥)
     → (place : ℕ) (rest : List (Actor × Class)) → ExceedsFrom c measure named place replay ((actor, class) ∷ rest) → ⊥
 exceeds_none c measure named replay who class never place rest exceeds =
-    let begins = way_begins c named replay.places place who class exceeds.way rest exceeds.leads exceeds.shown_is in
+    let begins = interleaving_begins c named replay.places place who class exceeds.interleaving rest exceeds.leads exceeds.shown_is in
     never begins.t begins.others begins.goes
 
 -- what was sent costs no more than 1,000 for each place that the named section has left behind
@@ -168,7 +168,7 @@ merge_heard named one other unheard a b (stage ∷ zs) m heard =
         let clash : (false && are_heard named (replies_along zs)) ≡ true = ap (λ b. b && are_heard named (replies_along zs)) (sym no) ∙ heard in
         absurd (cc)
 
--- ---- costs along a way
+-- ---- costs along an interleaving
 
 cost_of_others : (c : Code) (measure : Measure) (named who : Actor) (edges : List Edge) → is_of named who ≡ false
     → cost_in c measure named (staged who edges) ≡ 0
@@ -216,7 +216,7 @@ leads_alone c actor.A place before edges begun leads = (
     path_a = leads;
     path_b = stays;
     merge = merge_left_alone (staged actor.A edges);
-    way_is = refl;
+    interleaving_is = refl;
   },
 )
 leads_alone c actor.B place before edges begun leads = (
@@ -232,7 +232,7 @@ leads_alone c actor.B place before edges begun leads = (
     path_a = stays;
     path_b = leads;
     merge = merge_right_alone (staged actor.B edges);
-    way_is = refl;
+    interleaving_is = refl;
   },
 )
 
@@ -251,42 +251,45 @@ cost_alone c measure actor.P before edges = cost_of_own c measure actor.P edges 
 cost_alone c measure actor.A before edges = cost_behind c measure actor.A before edges refl refl
 cost_alone c measure actor.B before edges = cost_behind c measure actor.B before edges refl refl
 
--- the paths that a way of P and the named section alone is made of
-pub record ArePaths (c : Code) (named : Actor) (place : ℕ) (way : List Stage) : Type 0 where
+-- the paths of an interleaving of P and the named section alone
+pub record ArePaths (c : Code) (named : Actor) (place : ℕ) (interleaving : List Stage) : Type 0 where
   pub before : List Edge
   pub edges : List Edge
   pub begun : IsBegun c named before
   pub leads : LeadsIn c named edges place
-  pub way_is : way ≡ front named before ++ staged named edges
+  pub interleaving_is : interleaving ≡ front named before ++ staged named edges
 
-pub paths_alone : (c : Code) (named : Actor) (place : ℕ) (way : List Stage) → LeadsFrom c first_places named place way
-    → are_heard named (replies_along way) ≡ true → ArePaths c named place way
-paths_alone c actor.P place way (edges, path, is) heard = record { before = []; edges = edges; begun = tt; leads = path; way_is = is }
-paths_alone c actor.A place way (other, both) heard =
-    let behind = heard_behind actor.A both.before both.merged (ap (λ way. are_heard actor.A (replies_along way)) (sym both.way_is) ∙ heard) in
+pub paths_alone : (c : Code) (named : Actor) (place : ℕ) (interleaving : List Stage) → LeadsFrom c first_places named place interleaving
+    → are_heard named (replies_along interleaving) ≡ true → ArePaths c named place interleaving
+paths_alone c actor.P place interleaving (edges, path, is) heard = record { before = []; edges = edges; begun = tt; leads = path; interleaving_is = is }
+paths_alone c actor.A place interleaving (other, both) heard =
+    let behind = heard_behind actor.A both.before both.merged (ap (λ interleaving. are_heard actor.A (replies_along interleaving)) (sym both.interleaving_is)
+    ∙ heard) in
     let merged = merge_heard actor.A actor.A actor.B (λ class. refl) both.a both.b both.merged both.merge behind in
     record {
       before = both.before;
       edges = both.a;
       begun = (both.end, both.path_p, both.halts);
       leads = both.path_a;
-      way_is = both.way_is ∙ ap (λ merged. staged actor.P both.before ++ merged) merged;
+      interleaving_is = both.interleaving_is ∙ ap (λ merged. staged actor.P both.before ++ merged) merged;
     }
-paths_alone c actor.B place way (other, both) heard =
-    let behind = heard_behind actor.B both.before both.merged (ap (λ way. are_heard actor.B (replies_along way)) (sym both.way_is) ∙ heard) in
+paths_alone c actor.B place interleaving (other, both) heard =
+    let behind = heard_behind actor.B both.before both.merged (ap (λ interleaving. are_heard actor.B (replies_along interleaving)) (sym both.interleaving_is)
+    ∙ heard) in
     let merged = merge_heard actor.B actor.B actor.A (λ class. refl) both.b both.a both.merged (merge_turned both.merge) behind in
     record {
       before = both.before;
       edges = both.b;
       begun = (both.end, both.path_p, both.halts);
       leads = both.path_b;
-      way_is = both.way_is ∙ ap (λ merged. staged actor.P both.before ++ merged) merged;
+      interleaving_is = both.interleaving_is ∙ ap (λ merged. staged actor.P both.before ++ merged) merged;
     }
 
 pub excess_heard : (c : Code) (measure : Measure) (named : Actor) (place : ℕ) (shown : List (Actor × Class)) → ShowsExcess c measure named place shown
     → are_heard named shown ≡ true
-excess_heard c measure named place shown (way, shown_is, exceeds) =
-    ap (are_heard named) shown_is ∙ ap (λ way. are_heard named (replies_along way)) exceeds.way_is ∙ heard_alone named exceeds.before exceeds.edges
+excess_heard c measure named place shown (interleaving, shown_is, exceeds) =
+    ap (are_heard named) shown_is ∙ ap (λ interleaving. are_heard named (replies_along interleaving)) exceeds.interleaving_is
+    ∙ heard_alone named exceeds.before exceeds.edges
 
 pub excess_from_first : (c : Code) (measure : Measure) (named : Actor) (place : ℕ) (first : CostReplay) → first.places ≡ first_places → first.cost ≡ 0
     → (shown : List (Actor × Class)) → are_heard named shown ≡ true
@@ -294,29 +297,29 @@ pub excess_from_first : (c : Code) (measure : Measure) (named : Actor) (place : 
 excess_from_first c measure named place first places none shown heard = (forth, back)
   where
     forth : ShowsExcess c measure named place shown → ExceedsFrom c measure named place first shown
-    forth (way, shown_is, exceeds) =
-        let from_first = subst (LeadsFrom c first_places named place) (sym exceeds.way_is)
+    forth (interleaving, shown_is, exceeds) =
+        let from_first = subst (LeadsFrom c first_places named place) (sym exceeds.interleaving_is)
         (leads_alone c named place exceeds.before exceeds.edges exceeds.begun exceeds.leads) in
         let whole = cost_with_send c measure exceeds.edges exceeds.t in
-        let own = ap (cost_in c measure named) exceeds.way_is ∙ cost_alone c measure named exceeds.before exceeds.edges in
+        let own = ap (cost_in c measure named) exceeds.interleaving_is ∙ cost_alone c measure named exceeds.before exceeds.edges in
         let more = exceeds.exceeds in
         record {
           t = exceeds.t;
-          way = way;
+          interleaving = interleaving;
           shown_is = shown_is;
-          leads = subst (λ places. LeadsFrom c places named place way) (sym places) from_first;
+          leads = subst (λ places. LeadsFrom c places named place interleaving) (sym places) from_first;
           sends = exceeds.sends;
           exceeds = omega (arith, whole, own, more, none);
         }
 
     back : ExceedsFrom c measure named place first shown → ShowsExcess c measure named place shown
     back exceeds =
-        let from_first = subst (λ places. LeadsFrom c places named place exceeds.way) places exceeds.leads in
-        let paths = paths_alone c named place exceeds.way from_first (ap (are_heard named) (sym exceeds.shown_is) ∙ heard) in
+        let from_first = subst (λ places. LeadsFrom c places named place exceeds.interleaving) places exceeds.leads in
+        let paths = paths_alone c named place exceeds.interleaving from_first (ap (are_heard named) (sym exceeds.shown_is) ∙ heard) in
         let whole = cost_with_send c measure paths.edges exceeds.t in
-        let own = ap (cost_in c measure named) paths.way_is ∙ cost_alone c measure named paths.before paths.edges in
+        let own = ap (cost_in c measure named) paths.interleaving_is ∙ cost_alone c measure named paths.before paths.edges in
         let more = exceeds.exceeds in (
-          exceeds.way,
+          exceeds.interleaving,
           exceeds.shown_is,
           record {
             before = paths.before;
@@ -326,7 +329,7 @@ excess_from_first c measure named place first places none shown heard = (forth, 
             leads = paths.leads;
             sends = exceeds.sends;
             exceeds = omega (arith, whole, own, more, none);
-            way_is = paths.way_is;
+            interleaving_is = paths.interleaving_is;
           },
         )
 
@@ -343,8 +346,8 @@ pub record IsExceeding (c : Code) (measure : Measure) (named : Actor) (place : �
 pub exceeding_there : (c : Code) (measure : Measure) (named : Actor) (place : ℕ) (replay : CostReplay) → ExceedsFrom c measure named place replay []
     → IsExceeding c measure named place replay
 exceeding_there c measure named place replay exceeds =
-    let none = no_way exceeds.way exceeds.shown_is in
-    let cost : cost_in c measure named exceeds.way ≡ 0 = ap (cost_in c measure named) none in
+    let none = no_interleaving exceeds.interleaving exceeds.shown_is in
+    let cost : cost_in c measure named exceeds.interleaving ≡ 0 = ap (cost_in c measure named) none in
     let more = exceeds.exceeds in
     record {
       t = exceeds.t;
@@ -364,7 +367,7 @@ there_exceeding c measure named place n next t replay found leads at at_t tells 
     forth : bound_of measure (codes.section_of c named).budget < replay.cost + cost_of c measure t → ExceedsFrom c measure named place replay []
     forth more = record {
       t = t;
-      way = [];
+      interleaving = [];
       shown_is = refl;
       leads = leads;
       sends = (n, next, at, at_t);

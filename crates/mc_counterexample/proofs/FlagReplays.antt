@@ -9,8 +9,8 @@ use Rattle.mc_flow.specs.FlagTables.{may_be, MayBecome, MayLack}
 use Rattle.mc_counterexample.specs.{Replays.RestsAt, Replays.first_places, Replays.GoesOn, Replays.LeadsFrom, FlagReplays.ShowsLack, FlagReplays.LacksFrom}
 use Rattle.mc_counterexample.specs.{declared.flag_replay.FlagReplay.FlagReplay}
 use Rattle.mc_verify.proofs.FlagFaults.{needed_below}
-use Rattle.mc_counterexample.proofs.{Settling.sends_rest_at, Settling.sends_once_at, InterleavingSteps.goes_once, InterleavingSteps.way_begins}
-use Rattle.mc_counterexample.proofs.{InterleavingSteps.way_follows, InterleavingEnds.no_way, InterleavingEnds.leads_from_first}
+use Rattle.mc_counterexample.proofs.{Settling.sends_rest_at, Settling.sends_once_at, InterleavingSteps.goes_once, InterleavingSteps.interleaving_begins}
+use Rattle.mc_counterexample.proofs.{InterleavingSteps.interleaving_follows, InterleavingEnds.no_interleaving, InterleavingEnds.leads_from_first}
 use Rattle.mc_counterexample.proofs.{InterleavingEnds.first_from_leads}
 
 -- ---- one more reply
@@ -24,13 +24,13 @@ lacks_next : (c : Code) (value : Bool) (named : Actor) (place : ℕ) (replay nex
     (rest : List (Actor × Class)) → FlagsGoOn c named replay actor t class next → LacksFrom c value named place replay ((actor, class) ∷ rest)
     → LacksFrom c value named place next rest
 lacks_next c value named place replay next who t class rest on lacks =
-    let begins = way_begins c named replay.places place who class lacks.way rest lacks.leads lacks.shown_is in
+    let begins = interleaving_begins c named replay.places place who class lacks.interleaving rest lacks.leads lacks.shown_is in
     let same = goes_once c named replay.places who begins.t t class begins.others next.places begins.goes on.goes in
     record {
       flag = lacks.flag;
       before = flag_after lacks.flag t lacks.before;
       t = lacks.t;
-      way = begins.more;
+      interleaving = begins.more;
       shown_is = begins.rest_is;
       leads = subst (λ places. LeadsFrom c places named place begins.more) same.1 begins.leads;
       sends = lacks.sends;
@@ -38,7 +38,7 @@ lacks_next c value named place replay next who t class rest on lacks =
       needed = lacks.needed;
       lacking =
           ap (λ t. flag_along lacks.flag (calls_along begins.more) (flag_after lacks.flag t lacks.before)) (sym same.0)
-          ∙ ap (λ way. flag_along lacks.flag (calls_along way) lacks.before) (sym begins.way_is) ∙ lacks.lacking;
+          ∙ ap (λ interleaving. flag_along lacks.flag (calls_along interleaving) lacks.before) (sym begins.interleaving_is) ∙ lacks.lacking;
     }
 
 lacks_before : (c : Code) (value : Bool) (named : Actor) (place : ℕ) (replay next : FlagReplay) (actor : Actor) (t : Template) (class : Class)
@@ -50,13 +50,13 @@ lacks_before c value named place replay next who t class rest on lacks =
       flag = lacks.flag;
       before = becomes.0;
       t = lacks.t;
-      way = (who, (t, class)) ∷ lacks.way;
+      interleaving = (who, (t, class)) ∷ lacks.interleaving;
       shown_is = ap (λ shown. (who, class) ∷ shown) lacks.shown_is;
-      leads = way_follows c named replay.places place who t class next.places lacks.way on.goes lacks.leads;
+      leads = interleaving_follows c named replay.places place who t class next.places lacks.interleaving on.goes lacks.leads;
       sends = lacks.sends;
       begins = becomes.1;
       needed = lacks.needed;
-      lacking = ap (flag_along lacks.flag (calls_along lacks.way)) becomes.2 ∙ lacks.lacking;
+      lacking = ap (flag_along lacks.flag (calls_along lacks.interleaving)) becomes.2 ∙ lacks.lacking;
     }
 
 pub lacks_after : (c : Code) (named : Actor) (replay next : FlagReplay) (actor : Actor) (t : Template) (class : Class)
@@ -70,7 +70,7 @@ pub lacks_none : (c : Code) (named : Actor) (replay : FlagReplay) (actor : Actor
     → ((t : Template) → (others : _) → GoesOn c named replay.places actor t class others → ⊥)
     → (value : Bool) (place : ℕ) (rest : List (Actor × Class)) → LacksFrom c value named place replay ((actor, class) ∷ rest) → ⊥
 lacks_none c named replay who class never value place rest lacks =
-    let begins = way_begins c named replay.places place who class lacks.way rest lacks.leads lacks.shown_is in
+    let begins = interleaving_begins c named replay.places place who class lacks.interleaving rest lacks.leads lacks.shown_is in
     never begins.t begins.others begins.goes
 
 -- ---- at the start
@@ -81,14 +81,14 @@ pub lack_from_first : (c : Code) (value : Bool) (actor : Actor) (place : ℕ) (f
 lack_from_first c value who place first is places clear shown = (forth, back)
   where
     forth : ShowsLack c value who place shown → LacksFrom c value who place first shown
-    forth (way, shown_is, lacks) =
+    forth (interleaving, shown_is, lacks) =
         record {
           flag = lacks.flag;
           before = false;
           t = lacks.t;
-          way = way;
+          interleaving = interleaving;
           shown_is = shown_is;
-          leads = subst (λ places. LeadsFrom c places who place way) (sym places) (leads_from_first c who place way lacks.leads);
+          leads = subst (λ places. LeadsFrom c places who place interleaving) (sym places) (leads_from_first c who place interleaving lacks.leads);
           sends = lacks.sends;
           begins = (clear lacks.flag false).1 (refl, needed_below c is lacks.sends.0 lacks.t lacks.sends.3 lacks.flag value lacks.needed);
           needed = lacks.needed;
@@ -98,15 +98,15 @@ lack_from_first c value who place first is places clear shown = (forth, back)
     back : LacksFrom c value who place first shown → ShowsLack c value who place shown
     back lacks =
         let begun = (clear lacks.flag lacks.before).0 lacks.begins in (
-          lacks.way,
+          lacks.interleaving,
           lacks.shown_is,
           record {
             flag = lacks.flag;
             t = lacks.t;
             sends = lacks.sends;
-            leads = first_from_leads c who place lacks.way (subst (λ places. LeadsFrom c places who place lacks.way) places lacks.leads);
+            leads = first_from_leads c who place lacks.interleaving (subst (λ places. LeadsFrom c places who place lacks.interleaving) places lacks.leads);
             needed = lacks.needed;
-            lacking = ap (flag_along lacks.flag (calls_along lacks.way)) (sym begun.0) ∙ lacks.lacking;
+            lacking = ap (flag_along lacks.flag (calls_along lacks.interleaving)) (sym begun.0) ∙ lacks.lacking;
           },
         )
 
@@ -123,8 +123,8 @@ pub record IsLacking (c : Code) (value : Bool) (named : Actor) (place : ℕ) (re
 pub lacking_there : (c : Code) (value : Bool) (named : Actor) (place : ℕ) (replay : FlagReplay) → LacksFrom c value named place replay []
     → IsLacking c value named place replay
 lacking_there c value named place replay lacks =
-    let none = no_way lacks.way lacks.shown_is in
-    let before : lacks.before ≡ not value = ap (λ way. flag_along lacks.flag (calls_along way) lacks.before) (sym none) ∙ lacks.lacking in
+    let none = no_interleaving lacks.interleaving lacks.shown_is in
+    let before : lacks.before ≡ not value = ap (λ interleaving. flag_along lacks.flag (calls_along interleaving) lacks.before) (sym none) ∙ lacks.lacking in
     record {
       t = lacks.t;
       rests = sends_rest_at c named place lacks.t lacks.sends;
@@ -144,7 +144,7 @@ there_lacking c value named place n next t replay found leads at at_t tells =
       flag = flag;
       before = not value;
       t = t;
-      way = [];
+      interleaving = [];
       shown_is = refl;
       leads = leads;
       sends = (n, next, at, at_t);

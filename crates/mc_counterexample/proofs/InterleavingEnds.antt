@@ -1,4 +1,4 @@
--- Ways of which nothing is left, and ways from the first places.
+-- Interleavings of which nothing is left, and interleavings from the first places.
 use Rattle.std.proofs.Common.{◌≡◌, ◌↔◌, ℕ, ◌<◌, Bool, true, List, [], ◌∷◌, ◌++◌, length, refl, sym, subst}
 use Rattle.mc_protocol.specs.{Merge.IsMerge, Merge.none, Sections.section_of, declared.actor.Actor.Actor, declared.sections.Sections.Sections}
 use Rattle.mc_protocol.specs.declared.actor.Actor.TheVariants as actor
@@ -12,11 +12,11 @@ use Rattle.mc_sound.proofs.Structured.{structured_some}
 
 -- ---- no stage
 
-pub no_way : (way : List Stage) → [] ≡ replies_along way → way ≡ []
-no_way [] e = refl
-no_way (stage ∷ way) e = absurd (cc)
+pub no_interleaving : (interleaving : List Stage) → [] ≡ replies_along interleaving → interleaving ≡ []
+no_interleaving [] e = refl
+no_interleaving (stage ∷ interleaving) e = absurd (cc)
 
--- where nothing is left of the way, the section comes to the place without a reply; and where it is a branch, P to its end
+-- where nothing is left of the interleaving, the section comes to the place without a reply; and where it is a branch, P to its end
 abbrev pub IsThere : Code → Actor → Sections ℕ → ℕ → Type 0
 IsThere c named places place = LeadsBetween c named (section_of places named) [] place × (is_branch named ≡ true → Ends c places.p)
 
@@ -42,7 +42,7 @@ pub record BothAreThere (c : Code) (places : Sections ℕ) (place_a place_b : �
 
 both_are_there : (c : Code) (places : Sections ℕ) (place_a place_b : ℕ) → LeadsToBothFrom c places place_a place_b [] → BothAreThere c places place_a place_b
 both_are_there c places place_a place_b both =
-    let parts = both_none both.before both.merged both.way_is in
+    let parts = both_none both.before both.merged both.interleaving_is in
     let none = merged_none both.a both.b both.merged both.merge parts.1 in
     record {
       ends = (both.end, subst (λ edges. LeadsBetween c actor.P places.p edges both.end) parts.0 both.path_p, both.halts);
@@ -50,11 +50,11 @@ both_are_there c places place_a place_b both =
       there_b = subst (λ edges. LeadsBetween c actor.B places.b edges place_b) none.1 both.path_b;
     }
 
-pub way_is_done : (c : Code) (named : Actor) (places : Sections ℕ) (place : ℕ) → LeadsFrom c places named place [] → IsThere c named places place
-way_is_done c actor.P places place (edges, path, is) =
+pub interleaving_is_done : (c : Code) (named : Actor) (places : Sections ℕ) (place : ℕ) → LeadsFrom c places named place [] → IsThere c named places place
+interleaving_is_done c actor.P places place (edges, path, is) =
     (subst (λ edges. LeadsBetween c actor.P places.p edges place) (no_stages edges actor.P is) path, λ no. absurd (cc))
-way_is_done c actor.A places place (other, both) = let there = both_are_there c places place other both in (there.there_a, λ branch. there.ends)
-way_is_done c actor.B places place (other, both) = let there = both_are_there c places other place both in (there.there_b, λ branch. there.ends)
+interleaving_is_done c actor.A places place (other, both) = let there = both_are_there c places place other both in (there.there_a, λ branch. there.ends)
+interleaving_is_done c actor.B places place (other, both) = let there = both_are_there c places other place both in (there.there_b, λ branch. there.ends)
 
 both_from_there : (c : Code) (places : Sections ℕ) (place_a place_b : ℕ) → Ends c places.p → LeadsBetween c actor.A places.a [] place_a
     → LeadsBetween c actor.B places.b [] place_b → LeadsToBothFrom c places place_a place_b []
@@ -69,7 +69,7 @@ both_from_there c places place_a place_b ends there_a there_b = record {
   path_a = there_a;
   path_b = there_b;
   merge = none;
-  way_is = refl;
+  interleaving_is = refl;
 }
 
 pub done_from_there : (c : Code) (named : Actor) (places : Sections ℕ) (place : ℕ) → IsThere c named places place → LeadsFrom c places named place []
@@ -105,18 +105,19 @@ rests_there c named places place rest done slid rests here tells = (
     subst (RestsAt c named) here rests,
     done_from_there c named places place (subst (LeadsBetween c named (section_of places named) []) here slid, tells.0 e),
   ),
-  λ (there, leads). tells.1 (way_is_done c named places place leads).1,
+  λ (there, leads). tells.1 (interleaving_is_done c named places place leads).1,
 )
 
 pub rests_elsewhere : (c : Code) (named : Actor) (places : Sections ℕ) (place rest : ℕ) → LeadsBetween c named (section_of places named) [] rest
     → RestsAt c named rest → (rest ≡ place → ⊥) → RestsAt c named place → LeadsFrom c places named place [] → ⊥
 rests_elsewhere c named places place rest slid rests apart there leads =
-    apart (rests_once c named (section_of places named) rest place slid (way_is_done c named places place leads).0 rests there)
+    apart (rests_once c named (section_of places named) rest place slid (interleaving_is_done c named places place leads).0 rests there)
 
 -- ---- from the first places
 
-both_from_first : (c : Code) (place_a place_b : ℕ) (way : List Stage) → LeadsToBoth c place_a place_b way → LeadsToBothFrom c first_places place_a place_b way
-both_from_first c place_a place_b way both = record {
+both_from_first : (c : Code) (place_a place_b : ℕ) (interleaving : List Stage) → LeadsToBoth c place_a place_b interleaving
+    → LeadsToBothFrom c first_places place_a place_b interleaving
+both_from_first c place_a place_b interleaving both = record {
   before = both.before;
   a = both.a;
   b = both.b;
@@ -127,11 +128,12 @@ both_from_first c place_a place_b way both = record {
   path_a = both.path_a;
   path_b = both.path_b;
   merge = both.merge;
-  way_is = both.way_is;
+  interleaving_is = both.interleaving_is;
 }
 
-first_from_both : (c : Code) (place_a place_b : ℕ) (way : List Stage) → LeadsToBothFrom c first_places place_a place_b way → LeadsToBoth c place_a place_b way
-first_from_both c place_a place_b way both = record {
+first_from_both : (c : Code) (place_a place_b : ℕ) (interleaving : List Stage) → LeadsToBothFrom c first_places place_a place_b interleaving
+    → LeadsToBoth c place_a place_b interleaving
+first_from_both c place_a place_b interleaving both = record {
   before = both.before;
   a = both.a;
   b = both.b;
@@ -140,15 +142,17 @@ first_from_both c place_a place_b way both = record {
   path_a = both.path_a;
   path_b = both.path_b;
   merge = both.merge;
-  way_is = both.way_is;
+  interleaving_is = both.interleaving_is;
 }
 
-pub leads_from_first : (c : Code) (actor : Actor) (place : ℕ) (way : List Stage) → LeadsTo c actor place way → LeadsFrom c first_places actor place way
-leads_from_first c actor.P place way leads = leads
-leads_from_first c actor.A place way (other, both) = (other, both_from_first c place other way both)
-leads_from_first c actor.B place way (other, both) = (other, both_from_first c other place way both)
+pub leads_from_first : (c : Code) (actor : Actor) (place : ℕ) (interleaving : List Stage) → LeadsTo c actor place interleaving
+    → LeadsFrom c first_places actor place interleaving
+leads_from_first c actor.P place interleaving leads = leads
+leads_from_first c actor.A place interleaving (other, both) = (other, both_from_first c place other interleaving both)
+leads_from_first c actor.B place interleaving (other, both) = (other, both_from_first c other place interleaving both)
 
-pub first_from_leads : (c : Code) (actor : Actor) (place : ℕ) (way : List Stage) → LeadsFrom c first_places actor place way → LeadsTo c actor place way
-first_from_leads c actor.P place way leads = leads
-first_from_leads c actor.A place way (other, both) = (other, first_from_both c place other way both)
-first_from_leads c actor.B place way (other, both) = (other, first_from_both c other place way both)
+pub first_from_leads : (c : Code) (actor : Actor) (place : ℕ) (interleaving : List Stage) → LeadsFrom c first_places actor place interleaving
+    → LeadsTo c actor place interleaving
+first_from_leads c actor.P place interleaving leads = leads
+first_from_leads c actor.A place interleaving (other, both) = (other, first_from_both c place other interleaving both)
+first_from_leads c actor.B place interleaving (other, both) = (other, first_from_both c other place interleaving both)

@@ -1,4 +1,4 @@
--- The first stage of a way from some places: which reply goes on with it, and what of the way is left.
+-- The first stage of an interleaving from some places: which reply goes on with it, and what of the interleaving is left.
 use Rattle.std.proofs.Common.{◌≡◌, ⊎_elim, ℕ, true, List, [], ◌∷◌, ◌++◌, refl, ap, sym, subst, ◌∙◌}
 use Rattle.mc_protocol.specs.declared.sections.Sections.{Sections}
 use Rattle.mc_protocol.specs.{Merge.IsMerge, Merge.left, Merge.right, Sections.section_of, declared.actor.Actor.Actor, declared.reply.Class.Class}
@@ -21,56 +21,58 @@ goes_once c named places actor t u class others those x y =
 
 -- ---- the first stage
 
--- the way begins with a reply of the class of this section, and goes on from the places to which that leads
-pub record BothBegin (c : Code) (named : Actor) (places : Sections ℕ) (place_a place_b : ℕ) (actor : Actor) (class : Class) (way : List Stage)
+-- the interleaving begins with a reply of the class of this section, and goes on from the places to which that leads
+pub record BothBegin (c : Code) (named : Actor) (places : Sections ℕ) (place_a place_b : ℕ) (actor : Actor) (class : Class) (interleaving : List Stage)
     (rest : List (Actor × Class)) : Type 0 where
   pub t : Template
   pub others : Sections ℕ
   pub more : List Stage
   pub goes : GoesOn c named places actor t class others
   pub leads : LeadsToBothFrom c others place_a place_b more
-  pub way_is : way ≡ (actor, (t, class)) ∷ more
+  pub interleaving_is : interleaving ≡ (actor, (t, class)) ∷ more
   pub rest_is : rest ≡ replies_along more
 
-pub record WayBegins (c : Code) (named : Actor) (places : Sections ℕ) (place : ℕ) (actor : Actor) (class : Class) (way : List Stage)
+pub record WayBegins (c : Code) (named : Actor) (places : Sections ℕ) (place : ℕ) (actor : Actor) (class : Class) (interleaving : List Stage)
     (rest : List (Actor × Class)) : Type 0 where
   pub t : Template
   pub others : Sections ℕ
   pub more : List Stage
   pub goes : GoesOn c named places actor t class others
   pub leads : LeadsFrom c others named place more
-  pub way_is : way ≡ (actor, (t, class)) ∷ more
+  pub interleaving_is : interleaving ≡ (actor, (t, class)) ∷ more
   pub rest_is : rest ≡ replies_along more
 
-no_first : (first : Actor × Class) (rest : List (Actor × Class)) (way : List Stage) → first ∷ rest ≡ replies_along way → way ≡ [] → ⊥
-no_first first rest way e is = let none : first ∷ rest ≡ [] = e ∙ ap replies_along is in absurd (cc)
+no_first : (first : Actor × Class) (rest : List (Actor × Class)) (interleaving : List Stage) → first ∷ rest ≡ replies_along interleaving → interleaving ≡ [] → ⊥
+no_first first rest interleaving e is = let none : first ∷ rest ≡ [] = e ∙ ap replies_along is in absurd (cc)
 
--- the first reply and the others, where the way's first stage is known
-pub first_reply : (first : Actor × Class) (rest : List (Actor × Class)) (way more : List Stage) (stage : Stage) → first ∷ rest ≡ replies_along way
-    → way ≡ stage ∷ more → (first ≡ (stage.0, stage.1.1)) × (rest ≡ replies_along more)
-first_reply first rest way more stage e is =
+-- the first reply and the others, where the interleaving's first stage is known
+pub first_reply : (first : Actor × Class) (rest : List (Actor × Class)) (interleaving more : List Stage) (stage : Stage)
+    → first ∷ rest ≡ replies_along interleaving
+    → interleaving ≡ stage ∷ more → (first ≡ (stage.0, stage.1.1)) × (rest ≡ replies_along more)
+first_reply first rest interleaving more stage e is =
     let same : first ∷ rest ≡ (stage.0, stage.1.1) ∷ replies_along more = e ∙ ap replies_along is in
     (head_is first (stage.0, stage.1.1) rest (replies_along more) same, rest_is first (stage.0, stage.1.1) rest (replies_along more) same)
 
 pub both_begin : (c : Code) (named : Actor) → is_branch named ≡ true → (places : Sections ℕ) (place_a place_b : ℕ) (actor : Actor) (class : Class)
-    (way : List Stage) (rest : List (Actor × Class)) → LeadsToBothFrom c places place_a place_b way → (actor, class) ∷ rest ≡ replies_along way
-    → BothBegin c named places place_a place_b actor class way rest
-both_begin c named branch places place_a place_b who cl way rest both e = by_before both.before both.path_p both.way_is
+    (interleaving : List Stage) (rest : List (Actor × Class)) → LeadsToBothFrom c places place_a place_b interleaving
+    → (actor, class) ∷ rest ≡ replies_along interleaving
+    → BothBegin c named places place_a place_b actor class interleaving rest
+both_begin c named branch places place_a place_b who cl interleaving rest both e = by_before both.before both.path_p both.interleaving_is
   where
     Answer : Type 0
-    Answer = BothBegin c named places place_a place_b who cl way rest
+    Answer = BothBegin c named places place_a place_b who cl interleaving rest
 
-    moved_to : (first : Actor × Class) → (who, cl) ≡ first → BothBegin c named places place_a place_b first.0 first.1 way rest → Answer
-    moved_to first is begins = subst (λ (f : Actor × Class). BothBegin c named places place_a place_b f.0 f.1 way rest) (sym is) begins
+    moved_to : (first : Actor × Class) → (who, cl) ≡ first → BothBegin c named places place_a place_b first.0 first.1 interleaving rest → Answer
+    moved_to first is begins = subst (λ (f : Actor × Class). BothBegin c named places place_a place_b f.0 f.1 interleaving rest) (sym is) begins
 
     by_a : (ends : Ends c places.p) (a : List Edge) (stage : Stage) (others zs : List Stage) → LeadsBetween c actor.A places.a a place_a
-        → staged actor.A a ≡ stage ∷ others → IsMerge others (staged actor.B both.b) zs → way ≡ stage ∷ zs → Answer
-    by_a ends [] stage others zs path is m way_is = absurd (cc)
-    by_a ends (edge ∷ a) stage others zs path is m way_is =
+        → staged actor.A a ≡ stage ∷ others → IsMerge others (staged actor.B both.b) zs → interleaving ≡ stage ∷ zs → Answer
+    by_a ends [] stage others zs path is m interleaving_is = absurd (cc)
+    by_a ends (edge ∷ a) stage others zs path is m interleaving_is =
         let same = head_is (actor.A, edge) stage (staged actor.A a) others is in
         let after = rest_is (actor.A, edge) stage (staged actor.A a) others is in
-        let whole = way_is ∙ ap (λ stage. stage ∷ zs) (sym same) in
-        let replies = first_reply (who, cl) rest way zs (actor.A, edge) e whole in
+        let whole = interleaving_is ∙ ap (λ stage. stage ∷ zs) (sym same) in
+        let replies = first_reply (who, cl) rest interleaving zs (actor.A, edge) e whole in
         let first = answered_first c actor.A places.a place_a edge a path in
         moved_to (actor.A, edge.1) replies.0 (record {
           t = edge.0;
@@ -88,20 +90,20 @@ both_begin c named branch places place_a place_b who cl way rest both e = by_bef
             path_a = first.2;
             path_b = both.path_b;
             merge = subst (λ xs. IsMerge xs (staged actor.B both.b) zs) (sym after) m;
-            way_is = refl;
+            interleaving_is = refl;
           };
-          way_is = whole;
+          interleaving_is = whole;
           rest_is = replies.1;
         })
 
     by_b : (ends : Ends c places.p) (b : List Edge) (stage : Stage) (others zs : List Stage) → LeadsBetween c actor.B places.b b place_b
-        → staged actor.B b ≡ stage ∷ others → IsMerge (staged actor.A both.a) others zs → way ≡ stage ∷ zs → Answer
-    by_b ends [] stage others zs path is m way_is = absurd (cc)
-    by_b ends (edge ∷ b) stage others zs path is m way_is =
+        → staged actor.B b ≡ stage ∷ others → IsMerge (staged actor.A both.a) others zs → interleaving ≡ stage ∷ zs → Answer
+    by_b ends [] stage others zs path is m interleaving_is = absurd (cc)
+    by_b ends (edge ∷ b) stage others zs path is m interleaving_is =
         let same = head_is (actor.B, edge) stage (staged actor.B b) others is in
         let after = rest_is (actor.B, edge) stage (staged actor.B b) others is in
-        let whole = way_is ∙ ap (λ stage. stage ∷ zs) (sym same) in
-        let replies = first_reply (who, cl) rest way zs (actor.B, edge) e whole in
+        let whole = interleaving_is ∙ ap (λ stage. stage ∷ zs) (sym same) in
+        let replies = first_reply (who, cl) rest interleaving zs (actor.B, edge) e whole in
         let first = answered_first c actor.B places.b place_b edge b path in
         moved_to (actor.B, edge.1) replies.0 (record {
           t = edge.0;
@@ -119,23 +121,24 @@ both_begin c named branch places place_a place_b who cl way rest both e = by_bef
             path_a = both.path_a;
             path_b = first.2;
             merge = subst (λ ys. IsMerge (staged actor.A both.a) ys zs) (sym after) m;
-            way_is = refl;
+            interleaving_is = refl;
           };
-          way_is = whole;
+          interleaving_is = whole;
           rest_is = replies.1;
         })
 
-    by_merged : (ends : Ends c places.p) (merged : List Stage) → MergeBegins (staged actor.A both.a) (staged actor.B both.b) merged → way ≡ merged → Answer
-    by_merged ends [] begins is = absurd (no_first (who, cl) rest way e is)
+    by_merged : (ends : Ends c places.p) (merged : List Stage) → MergeBegins (staged actor.A both.a) (staged actor.B both.b) merged → interleaving ≡ merged
+        → Answer
+    by_merged ends [] begins is = absurd (no_first (who, cl) rest interleaving e is)
     by_merged ends (stage ∷ zs) begins is =
         ⊎_elim (λ (others, of_a, m). by_a ends both.a stage others zs both.path_a of_a m is)
         (λ (others, of_b, m). by_b ends both.b stage others zs both.path_b of_b m is) begins
 
-    by_before : (before : List Edge) → LeadsBetween c actor.P places.p before both.end → way ≡ staged actor.P before ++ both.merged → Answer
+    by_before : (before : List Edge) → LeadsBetween c actor.P places.p before both.end → interleaving ≡ staged actor.P before ++ both.merged → Answer
     by_before [] path is = by_merged (both.end, path, both.halts) both.merged (merge_first both.merge) is
     by_before (edge ∷ before) path is =
         let more = staged actor.P before ++ both.merged in
-        let replies = first_reply (who, cl) rest way more (actor.P, edge) e is in
+        let replies = first_reply (who, cl) rest interleaving more (actor.P, edge) e is in
         let first = answered_first c actor.P places.p both.end edge before path in
         moved_to (actor.P, edge.1) replies.0 (record {
           t = edge.0;
@@ -153,57 +156,57 @@ both_begin c named branch places place_a place_b who cl way rest both e = by_bef
             path_a = both.path_a;
             path_b = both.path_b;
             merge = both.merge;
-            way_is = refl;
+            interleaving_is = refl;
           };
-          way_is = is;
+          interleaving_is = is;
           rest_is = replies.1;
         })
 
-p_begins : (c : Code) (places : Sections ℕ) (place : ℕ) (who : Actor) (cl : Class) (way : List Stage) (rest : List (Actor × Class)) (edges : List Edge)
-    → LeadsBetween c actor.P places.p edges place → way ≡ staged actor.P edges → (who, cl) ∷ rest ≡ replies_along way
-    → WayBegins c actor.P places place who cl way rest
-p_begins c places place who cl way rest [] path is e = absurd (no_first (who, cl) rest way e is)
-p_begins c places place who cl way rest (edge ∷ edges) path is e =
-    let replies = first_reply (who, cl) rest way (staged actor.P edges) (actor.P, edge) e is in
+p_begins : (c : Code) (places : Sections ℕ) (place : ℕ) (who : Actor) (cl : Class) (interleaving : List Stage) (rest : List (Actor × Class)) (edges : List Edge)
+    → LeadsBetween c actor.P places.p edges place → interleaving ≡ staged actor.P edges → (who, cl) ∷ rest ≡ replies_along interleaving
+    → WayBegins c actor.P places place who cl interleaving rest
+p_begins c places place who cl interleaving rest [] path is e = absurd (no_first (who, cl) rest interleaving e is)
+p_begins c places place who cl interleaving rest (edge ∷ edges) path is e =
+    let replies = first_reply (who, cl) rest interleaving (staged actor.P edges) (actor.P, edge) e is in
     let first = answered_first c actor.P places.p place edge edges path in
-    subst (λ (f : Actor × Class). WayBegins c actor.P places place f.0 f.1 way rest) (sym replies.0) (record {
+    subst (λ (f : Actor × Class). WayBegins c actor.P places place f.0 f.1 interleaving rest) (sym replies.0) (record {
       t = edge.0;
       others = moved places actor.P first.0;
       more = staged actor.P edges;
       goes = record { place = first.0; follows = tt; answered = first.1; others_are = refl };
       leads = (edges, first.2, refl);
-      way_is = is;
+      interleaving_is = is;
       rest_is = replies.1;
     })
 
-pub way_begins : (c : Code) (named : Actor) (places : Sections ℕ) (place : ℕ) (actor : Actor) (class : Class) (way : List Stage)
-    (rest : List (Actor × Class)) → LeadsFrom c places named place way → (actor, class) ∷ rest ≡ replies_along way
-    → WayBegins c named places place actor class way rest
-way_begins c actor.P places place who cl way rest (edges, path, is) e = p_begins c places place who cl way rest edges path is e
-way_begins c actor.A places place who cl way rest (other, both) e =
-    let begins = both_begin c actor.A refl places place other who cl way rest both e in
+pub interleaving_begins : (c : Code) (named : Actor) (places : Sections ℕ) (place : ℕ) (actor : Actor) (class : Class) (interleaving : List Stage)
+    (rest : List (Actor × Class)) → LeadsFrom c places named place interleaving → (actor, class) ∷ rest ≡ replies_along interleaving
+    → WayBegins c named places place actor class interleaving rest
+interleaving_begins c actor.P places place who cl interleaving rest (edges, path, is) e = p_begins c places place who cl interleaving rest edges path is e
+interleaving_begins c actor.A places place who cl interleaving rest (other, both) e =
+    let begins = both_begin c actor.A refl places place other who cl interleaving rest both e in
     record {
       t = begins.t;
       others = begins.others;
       more = begins.more;
       goes = begins.goes;
       leads = (other, begins.leads);
-      way_is = begins.way_is;
+      interleaving_is = begins.interleaving_is;
       rest_is = begins.rest_is;
     }
-way_begins c actor.B places place who cl way rest (other, both) e =
-    let begins = both_begin c actor.B refl places other place who cl way rest both e in
+interleaving_begins c actor.B places place who cl interleaving rest (other, both) e =
+    let begins = both_begin c actor.B refl places other place who cl interleaving rest both e in
     record {
       t = begins.t;
       others = begins.others;
       more = begins.more;
       goes = begins.goes;
       leads = (other, begins.leads);
-      way_is = begins.way_is;
+      interleaving_is = begins.interleaving_is;
       rest_is = begins.rest_is;
     }
 
--- ---- a stage before a way
+-- ---- a stage before an interleaving
 
 both_follow : (c : Code) (named : Actor) (places : Sections ℕ) (place_a place_b : ℕ) (who : Actor) (t : Template) (class : Class) (to : ℕ) (more : List Stage)
     → MayFollow c named places.p who → IsAnswered c who (section_of places who) t class to
@@ -220,7 +223,7 @@ both_follow c named places place_a place_b actor.P t class to more follows answe
   path_a = both.path_a;
   path_b = both.path_b;
   merge = both.merge;
-  way_is = ap (λ way. (actor.P, (t, class)) ∷ way) both.way_is;
+  interleaving_is = ap (λ interleaving. (actor.P, (t, class)) ∷ interleaving) both.interleaving_is;
 }
 both_follow c named places place_a place_b actor.A t class to more follows answered both =
     let alone = ends_alone c places.p both.end both.before follows.1 both.path_p in
@@ -235,7 +238,8 @@ both_follow c named places place_a place_b actor.A t class to more follows answe
       path_a = answered_then c actor.A places.a to place_a t class both.a answered both.path_a;
       path_b = both.path_b;
       merge = left both.merge;
-      way_is = ap (λ way. (actor.A, (t, class)) ∷ way) (both.way_is ∙ ap (λ before. staged actor.P before ++ both.merged) alone);
+      interleaving_is = ap (λ interleaving. (actor.A, (t, class)) ∷ interleaving) (both.interleaving_is
+          ∙ ap (λ before. staged actor.P before ++ both.merged) alone);
     }
 both_follow c named places place_a place_b actor.B t class to more follows answered both =
     let alone = ends_alone c places.p both.end both.before follows.1 both.path_p in
@@ -250,29 +254,30 @@ both_follow c named places place_a place_b actor.B t class to more follows answe
       path_a = both.path_a;
       path_b = answered_then c actor.B places.b to place_b t class both.b answered both.path_b;
       merge = right both.merge;
-      way_is = ap (λ way. (actor.B, (t, class)) ∷ way) (both.way_is ∙ ap (λ before. staged actor.P before ++ both.merged) alone);
+      interleaving_is = ap (λ interleaving. (actor.B, (t, class)) ∷ interleaving) (both.interleaving_is
+          ∙ ap (λ before. staged actor.P before ++ both.merged) alone);
     }
 
 p_follows : (c : Code) (places : Sections ℕ) (place : ℕ) (who : Actor) (t : Template) (class : Class) (to : ℕ) (more : List Stage)
     → MayFollow c actor.P places.p who → IsAnswered c who (section_of places who) t class to
     → LeadsFrom c (moved places who to) actor.P place more → LeadsFrom c places actor.P place ((who, (t, class)) ∷ more)
 p_follows c places place actor.P t class to more follows answered (edges, path, is) =
-    ((t, class) ∷ edges, answered_then c actor.P places.p to place t class edges answered path, ap (λ way. (actor.P, (t, class)) ∷ way) is)
+    ((t, class) ∷ edges, answered_then c actor.P places.p to place t class edges answered path, ap (λ interleaving. (actor.P, (t, class)) ∷ interleaving) is)
 p_follows c places place actor.A t class to more follows answered leads = let no = follows.0 in absurd (cc)
 p_follows c places place actor.B t class to more follows answered leads = let no = follows.0 in absurd (cc)
 
-pub way_follows : (c : Code) (named : Actor) (places : Sections ℕ) (place : ℕ) (actor : Actor) (t : Template) (class : Class) (others : Sections ℕ)
+pub interleaving_follows : (c : Code) (named : Actor) (places : Sections ℕ) (place : ℕ) (actor : Actor) (t : Template) (class : Class) (others : Sections ℕ)
     (more : List Stage) → GoesOn c named places actor t class others → LeadsFrom c others named place more
     → LeadsFrom c places named place ((actor, (t, class)) ∷ more)
-way_follows c actor.P places place who t class others more goes leads =
+interleaving_follows c actor.P places place who t class others more goes leads =
     p_follows c places place who t class goes.place more goes.follows goes.answered
     (subst (λ places. LeadsFrom c places actor.P place more) goes.others_are leads)
-way_follows c actor.A places place who t class others more goes (other, both) = (
+interleaving_follows c actor.A places place who t class others more goes (other, both) = (
   other,
   both_follow c actor.A places place other who t class goes.place more goes.follows goes.answered
       (subst (λ places. LeadsToBothFrom c places place other more) goes.others_are both),
 )
-way_follows c actor.B places place who t class others more goes (other, both) = (
+interleaving_follows c actor.B places place who t class others more goes (other, both) = (
   other,
   both_follow c actor.B places other place who t class goes.place more goes.follows goes.answered
       (subst (λ places. LeadsToBothFrom c places other place more) goes.others_are both),

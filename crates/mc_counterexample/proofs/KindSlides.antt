@@ -95,9 +95,9 @@ front_of_branch actor.P before branch = absurd (cc)
 front_of_branch actor.A before branch = refl
 front_of_branch actor.B before branch = refl
 
-behind_along : (c : Code) (kind : RefusalKind) (named : Actor) (place : ℕ) (way : List Stage) (shown : List (Actor × Class)) → is_branch named ≡ true
-    → shown ≡ replies_along way → FailsAlong c kind named place way → FailsBehind c kind named place 0 (initial_state (no_variables c)) shown
-behind_along c kind named place way shown branch shown_is along =
+behind_along : (c : Code) (kind : RefusalKind) (named : Actor) (place : ℕ) (interleaving : List Stage) (shown : List (Actor × Class)) → is_branch named ≡ true
+    → shown ≡ replies_along interleaving → FailsAlong c kind named place interleaving → FailsBehind c kind named place 0 (initial_state (no_variables c)) shown
+behind_along c kind named place interleaving shown branch shown_is along =
     let leaves = left_before c named along.before along.variables branch along.begins in
     let comes = leaves.1 in
     let own = staged named (edges_of along.exchanges) in
@@ -116,7 +116,7 @@ behind_along c kind named place way shown branch shown_is along =
         fails = along.fails;
         shown_is = refl;
       };
-      shown_is = shown_is ∙ ap replies_along along.way_is
+      shown_is = shown_is ∙ ap replies_along along.interleaving_is
           ∙ ap (λ prefix. replies_along (prefix ++ own)) (sym (front_of_branch named along.before branch))
           ∙ replies_append (staged actor.P (edges_of along.before)) own;
     }
@@ -144,7 +144,7 @@ along_behind c kind named place shown branch behind =
         begins = begins_behind c named behind.before behind.halt behind.end branch behind.run behind.halts;
         stands = behind.fails.run;
         fails = behind.fails.fails;
-        way_is = ap (λ prefix. prefix ++ own) (front_of_branch named behind.before branch);
+        interleaving_is = ap (λ prefix. prefix ++ own) (front_of_branch named behind.before branch);
       },
     )
 
@@ -159,13 +159,13 @@ fails_from_first c kind named place shown begun from st begun_is from_is st_is =
     at_start : (named : Actor)
         → ShowsFail c kind named place shown ↔ FailsWhere (not (is_branch named)) c kind named place 0 (initial_state (no_variables c)) shown
     at_start actor.P = (
-      λ (way, shown_is, along). record {
+      λ (interleaving, shown_is, along). record {
         exchanges = along.exchanges;
         end = along.st;
         run = subst (λ variables. IsRun c.templates (instructions_in c actor.P) 0 (initial_state variables) along.exchanges place along.st) along.begins
             along.stands;
         fails = along.fails;
-        shown_is = shown_is ∙ ap replies_along along.way_is;
+        shown_is = shown_is ∙ ap replies_along along.interleaving_is;
       },
       λ fails. (
         staged actor.P (edges_of fails.exchanges),
@@ -178,18 +178,27 @@ fails_from_first c kind named place shown begun from st begun_is from_is st_is =
           begins = refl;
           stands = fails.run;
           fails = fails.fails;
-          way_is = refl;
+          interleaving_is = refl;
         },
       ),
     )
-    at_start actor.A = (λ (way, shown_is, along). behind_along c kind actor.A place way shown refl shown_is along, along_behind c kind actor.A place shown refl)
-    at_start actor.B = (λ (way, shown_is, along). behind_along c kind actor.B place way shown refl shown_is along, along_behind c kind actor.B place shown refl)
+    at_start actor.A = (
+      λ
+          (interleaving, shown_is, along). behind_along c kind actor.A place interleaving shown refl shown_is along,
+      along_behind c kind actor.A place shown refl,
+    )
+    at_start actor.B = (
+      λ
+          (interleaving, shown_is, along). behind_along c kind actor.B place interleaving shown refl shown_is along,
+      along_behind c kind actor.B place shown refl,
+    )
 
 -- ---- the kinds
 
-comes_fails : (c : Code) (kind : RefusalKind) (actor : Actor) (place : ℕ) (way : List Stage) (outcome : Outcome) → is_outcome kind (Some outcome) ≡ true
-    → ComesAlong c actor place outcome way → FailsAlong c kind actor place way
-comes_fails c kind actor place way outcome is comes = record {
+comes_fails : (c : Code) (kind : RefusalKind) (actor : Actor) (place : ℕ) (interleaving : List Stage) (outcome : Outcome)
+    → is_outcome kind (Some outcome) ≡ true
+    → ComesAlong c actor place outcome interleaving → FailsAlong c kind actor place interleaving
+comes_fails c kind actor place interleaving outcome is comes = record {
   before = comes.before;
   variables = comes.variables;
   exchanges = comes.exchanges;
@@ -197,12 +206,13 @@ comes_fails c kind actor place way outcome is comes = record {
   begins = comes.begins;
   stands = comes.stands;
   fails = ap (is_outcome kind) comes.meets ∙ is;
-  way_is = comes.way_is;
+  interleaving_is = comes.interleaving_is;
 }
 
-fails_comes : (c : Code) (kind : RefusalKind) (actor : Actor) (place : ℕ) (way : List Stage) (outcome : Outcome) (fails : FailsAlong c kind actor place way)
-    → met_in c actor place fails.st ≡ Some outcome → ComesAlong c actor place outcome way
-fails_comes c kind actor place way outcome fails meets = record {
+fails_comes : (c : Code) (kind : RefusalKind) (actor : Actor) (place : ℕ) (interleaving : List Stage) (outcome : Outcome)
+    (fails : FailsAlong c kind actor place interleaving)
+    → met_in c actor place fails.st ≡ Some outcome → ComesAlong c actor place outcome interleaving
+fails_comes c kind actor place interleaving outcome fails meets = record {
   before = fails.before;
   variables = fails.variables;
   exchanges = fails.exchanges;
@@ -210,32 +220,32 @@ fails_comes c kind actor place way outcome fails meets = record {
   begins = fails.begins;
   stands = fails.stands;
   meets = meets;
-  way_is = fails.way_is;
+  interleaving_is = fails.interleaving_is;
 }
 
 pub shown_unbound : (c : Code) (actor : Actor) (place : ℕ) (shown : List (Actor × Class))
     → ShowsFail c refusal.Unbound actor place shown ↔ IsShownBy c refusal.Unbound actor place shown
 shown_unbound c actor place shown = (
-  λ (way, shown_is, fails).
+  λ (interleaving, shown_is, fails).
       let found = some_unbound (met_in c actor place fails.st) fails.fails in
-      (way, shown_is, (found.0, fails_comes c refusal.Unbound actor place way (unbound found.0) fails found.1)),
-  λ (way, shown_is, (t, comes)). (way, shown_is, comes_fails c refusal.Unbound actor place way (unbound t) refl comes),
+      (interleaving, shown_is, (found.0, fails_comes c refusal.Unbound actor place interleaving (unbound found.0) fails found.1)),
+  λ (interleaving, shown_is, (t, comes)). (interleaving, shown_is, comes_fails c refusal.Unbound actor place interleaving (unbound t) refl comes),
 )
 
 pub shown_wrong_kind : (c : Code) (actor : Actor) (place : ℕ) (shown : List (Actor × Class))
     → ShowsFail c refusal.WrongKind actor place shown ↔ IsShownBy c refusal.WrongKind actor place shown
 shown_wrong_kind c actor place shown = (
-  λ (way, shown_is, fails).
+  λ (interleaving, shown_is, fails).
       let found = some_wrong_kind (met_in c actor place fails.st) fails.fails in
-      (way, shown_is, (found.0, fails_comes c refusal.WrongKind actor place way (wrong_kind found.0) fails found.1)),
-  λ (way, shown_is, (t, comes)). (way, shown_is, comes_fails c refusal.WrongKind actor place way (wrong_kind t) refl comes),
+      (interleaving, shown_is, (found.0, fails_comes c refusal.WrongKind actor place interleaving (wrong_kind found.0) fails found.1)),
+  λ (interleaving, shown_is, (t, comes)). (interleaving, shown_is, comes_fails c refusal.WrongKind actor place interleaving (wrong_kind t) refl comes),
 )
 
 pub shown_nothing : (c : Code) (actor : Actor) (place : ℕ) (shown : List (Actor × Class))
     → ShowsFail c refusal.NothingToBind actor place shown ↔ IsShownBy c refusal.NothingToBind actor place shown
 shown_nothing c actor place shown = (
-  λ (way, shown_is, fails).
+  λ (interleaving, shown_is, fails).
       let found = some_nothing (met_in c actor place fails.st) fails.fails in
-      (way, shown_is, (found.0, fails_comes c refusal.NothingToBind actor place way (nothing_to_bind found.0) fails found.1)),
-  λ (way, shown_is, (v, comes)). (way, shown_is, comes_fails c refusal.NothingToBind actor place way (nothing_to_bind v) refl comes),
+      (interleaving, shown_is, (found.0, fails_comes c refusal.NothingToBind actor place interleaving (nothing_to_bind found.0) fails found.1)),
+  λ (interleaving, shown_is, (v, comes)). (interleaving, shown_is, comes_fails c refusal.NothingToBind actor place interleaving (nothing_to_bind v) refl comes),
 )

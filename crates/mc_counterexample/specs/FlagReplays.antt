@@ -10,7 +10,8 @@ use Rattle.mc_counterexample.specs.{Replays.LeadsFrom, declared.flag_replay.Flag
 
 -- these replies show that a send at the place may lack a flag that it needs at this value
 abbrev pub ShowsLack : Code → Bool → Actor → ℕ → List (Actor × Class) → Type 0
-ShowsLack c value actor place shown = (way : List Stage) × (shown ≡ replies_along way) × LacksAlong c value actor place way
+ShowsLack c value actor place shown = (interleaving : List Stage) × (shown ≡ replies_along interleaving)
+    × LacksAlong c value actor place interleaving
 
 -- from the replay on, these replies do
 pub record LacksFrom (c : Code) (value : Bool) (actor : Actor) (place : ℕ) (replay : FlagReplay) (shown : List (Actor × Class))
@@ -18,10 +19,10 @@ pub record LacksFrom (c : Code) (value : Bool) (actor : Actor) (place : ℕ) (re
   pub flag : ℕ
   pub before : Bool
   pub t : Template
-  pub way : List Stage
-  pub shown_is : shown ≡ replies_along way
-  pub leads : LeadsFrom c replay.places actor place way
+  pub interleaving : List Stage
+  pub shown_is : shown ≡ replies_along interleaving
+  pub leads : LeadsFrom c replay.places actor place interleaving
   pub sends : SendsAt c actor place t
   pub begins : may_be flag before replay.flags ≡ true
   pub needed : needs flag t value ≡ true
-  pub lacking : flag_along flag (calls_along way) before ≡ not value
+  pub lacking : flag_along flag (calls_along interleaving) before ≡ not value

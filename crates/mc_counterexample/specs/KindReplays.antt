@@ -64,8 +64,8 @@ pub record IsEnded (c : Code) (from : ℕ) (st after : State) : Type 0 where
 
 -- ---- what is left of a run
 
--- along this way some run comes to a fault of the kind at the place
-pub record FailsAlong (c : Code) (kind : RefusalKind) (actor : Actor) (place : ℕ) (way : List Stage) : Type 0 where
+-- along this interleaving some run comes to a fault of the kind at the place
+pub record FailsAlong (c : Code) (kind : RefusalKind) (actor : Actor) (place : ℕ) (interleaving : List Stage) : Type 0 where
   pub before : List Exchange
   pub variables : List Tagged
   pub exchanges : List Exchange
@@ -73,11 +73,12 @@ pub record FailsAlong (c : Code) (kind : RefusalKind) (actor : Actor) (place : �
   pub begins : BeginsAfter c before actor variables
   pub stands : StandsAt c actor variables exchanges place st
   pub fails : is_outcome kind (met_in c actor place st) ≡ true
-  pub way_is : way ≡ front actor (edges_of before) ++ staged actor (edges_of exchanges)
+  pub interleaving_is : interleaving ≡ front actor (edges_of before) ++ staged actor (edges_of exchanges)
 
 -- these replies show it
 abbrev pub ShowsFail : Code → RefusalKind → Actor → ℕ → List (Actor × Class) → Type 0
-ShowsFail c kind actor place shown = (way : List Stage) × (shown ≡ replies_along way) × FailsAlong c kind actor place way
+ShowsFail c kind actor place shown = (interleaving : List Stage) × (shown ≡ replies_along interleaving)
+    × FailsAlong c kind actor place interleaving
 
 -- from the place and the state the section comes by these replies to a fault of the kind at the other place
 pub record FailsOn (c : Code) (kind : RefusalKind) (actor : Actor) (place from : ℕ) (st : State) (shown : List (Actor × Class))

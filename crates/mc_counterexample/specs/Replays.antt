@@ -91,10 +91,10 @@ is_heard named reply = is_of actor.P reply.0 || is_of named reply.0
 abbrev pub are_heard : Actor → List (Actor × Class) → Bool
 are_heard named shown = list_all (is_heard named) shown
 
--- ---- ways from places on
+-- ---- interleavings from places on
 
 -- as `LeadsToBoth`, but from these places
-pub record LeadsToBothFrom (c : Code) (places : Sections ℕ) (place_a place_b : ℕ) (way : List Stage) : Type 0 where
+pub record LeadsToBothFrom (c : Code) (places : Sections ℕ) (place_a place_b : ℕ) (interleaving : List Stage) : Type 0 where
   pub before : List Edge
   pub a : List Edge
   pub b : List Edge
@@ -105,11 +105,11 @@ pub record LeadsToBothFrom (c : Code) (places : Sections ℕ) (place_a place_b :
   pub path_a : LeadsBetween c actor.A places.a a place_a
   pub path_b : LeadsBetween c actor.B places.b b place_b
   pub merge : IsMerge (staged actor.A a) (staged actor.B b) merged
-  pub way_is : way ≡ staged actor.P before ++ merged
+  pub interleaving_is : interleaving ≡ staged actor.P before ++ merged
 
 -- as `LeadsTo`, but from these places
 abbrev pub LeadsFrom : Code → Sections ℕ → Actor → ℕ → List Stage → Type 0
-LeadsFrom c places actor.P place way =
-    (edges : List Edge) × LeadsBetween c actor.P places.p edges place × (way ≡ staged actor.P edges)
-LeadsFrom c places actor.A place way = (other : ℕ) × LeadsToBothFrom c places place other way
-LeadsFrom c places actor.B place way = (other : ℕ) × LeadsToBothFrom c places other place way
+LeadsFrom c places actor.P place interleaving =
+    (edges : List Edge) × LeadsBetween c actor.P places.p edges place × (interleaving ≡ staged actor.P edges)
+LeadsFrom c places actor.A place interleaving = (other : ℕ) × LeadsToBothFrom c places place other interleaving
+LeadsFrom c places actor.B place interleaving = (other : ℕ) × LeadsToBothFrom c places other place interleaving

@@ -6,7 +6,7 @@ pub mod FlagPaths
 pub mod FlagMoves
 pub mod FlagGrid
 pub mod FlagUnions
-pub mod FlagWays
+pub mod FlagInterleavings
 pub mod CallCosts
 pub mod CostPaths
 pub mod CostSpread

@@ -8,7 +8,7 @@
 //! flags along paths and along merges of the branches' paths (`specs/FlagTables.antt`), and of costs (`specs/CostTables.antt`).
 //!
 //! What the crate above uses is that each table is exact: `all_kind_tables`, `all_flag_tables` and `CostTables::new` answer, of
-//! sections that lead forwards, what runs, ways and paths lead to, and nothing else.
+//! sections that lead forwards, what runs, interleavings and paths lead to, and nothing else.
 #![tactic(auto)]
 
 mod cost_flow;

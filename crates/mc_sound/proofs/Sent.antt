@@ -60,8 +60,8 @@ after_p c before calls_a calls_b merged sound complete sent_a sent_b merge =
     let b = path_of c actor.B calls_b sent_b in
     let stages = merge_unmap (λ (stage : Stage). stage.1.0) (staged actor.A a.1) (staged actor.B b.1) merge
     (staged_calls actor.A a.1 ∙ sym a.3) (staged_calls actor.B b.1 ∙ sym b.3) in
-    let way = staged actor.P before ++ stages.0 in
-    let both : LeadsToBoth c a.0 b.0 way = record {
+    let interleaving = staged actor.P before ++ stages.0 in
+    let both : LeadsToBoth c a.0 b.0 interleaving = record {
       before = before;
       a = a.1;
       b = b.1;
@@ -70,10 +70,10 @@ after_p c before calls_a calls_b merged sound complete sent_a sent_b merge =
       path_a = a.2;
       path_b = b.2;
       merge = stages.1;
-      way_is = refl;
+      interleaving_is = refl;
     } in
-    let calls = calls_in_turn c a.0 b.0 way both ∙ ap (λ l. calls_of before ++ l) stages.2 in
-    subst (IsAdmitted all_clear) calls (sound_admitted.along c actor.A a.0 way sound (b.0, both))
+    let calls = calls_in_turn c a.0 b.0 interleaving both ∙ ap (λ l. calls_of before ++ l) stages.2 in
+    subst (IsAdmitted all_clear) calls (sound_admitted.along c actor.A a.0 interleaving sound (b.0, both))
 
 pub sent_admitted : SentIsAdmitted
 sent_admitted = record { in_p = in_p; after_p = after_p }

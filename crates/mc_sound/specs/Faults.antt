@@ -26,15 +26,15 @@ pub record MayComeTo (c : Code) (actor : Actor) (place : ℕ) (outcome : Outcome
   pub stands : StandsAt c actor variables exchanges place st
   pub meets : met_in c actor place st ≡ Some outcome
 
--- a send at the place needs a flag to have this value, and after some way that leads there it has the other one
+-- a send at the place needs a flag to have this value, and after some interleaving that leads there it has the other one
 pub record MayLackFlag (c : Code) (value : Bool) (actor : Actor) (place : ℕ) : Type 0 where
   pub flag : ℕ
   pub t : Template
-  pub way : List Stage
+  pub interleaving : List Stage
   pub sends : SendsAt c actor place t
-  pub leads : LeadsTo c actor place way
+  pub leads : LeadsTo c actor place interleaving
   pub needed : needs flag t value ≡ true
-  pub lacking : flag_along flag (calls_along way) false ≡ not value
+  pub lacking : flag_along flag (calls_along interleaving) false ≡ not value
 
 -- the calls of some path to a send at the place, the send's own included, cost more than the section's budget
 pub record MayExceed (c : Code) (measure : Measure) (actor : Actor) (place : ℕ) : Type 0 where

@@ -14,10 +14,10 @@ staged actor edges = map (λ edge. (actor, edge)) edges
 
 -- what is sent along an interleaving
 abbrev pub calls_along : List Stage → List Template
-calls_along way = map (λ (stage : Stage). stage.1.0) way
+calls_along interleaving = map (λ (stage : Stage). stage.1.0) interleaving
 
 -- it is a complete path of P, and then a merge of paths of A and of B to these places
-pub record LeadsToBoth (c : Code) (place_a place_b : ℕ) (way : List Stage) : Type 0 where
+pub record LeadsToBoth (c : Code) (place_a place_b : ℕ) (interleaving : List Stage) : Type 0 where
   pub before : List Edge
   pub a : List Edge
   pub b : List Edge
@@ -26,10 +26,10 @@ pub record LeadsToBoth (c : Code) (place_a place_b : ℕ) (way : List Stage) : T
   pub path_a : LeadsIn c actor.A a place_a
   pub path_b : LeadsIn c actor.B b place_b
   pub merge : IsMerge (staged actor.A a) (staged actor.B b) merged
-  pub way_is : way ≡ staged actor.P before ++ merged
+  pub interleaving_is : interleaving ≡ staged actor.P before ++ merged
 
 -- the interleaving leads to this place of the section; the other branch may stand anywhere
 abbrev pub LeadsTo : Code → Actor → ℕ → List Stage → Type 0
-LeadsTo c actor.P place way = (edges : List Edge) × LeadsIn c actor.P edges place × (way ≡ staged actor.P edges)
-LeadsTo c actor.A place way = (other : ℕ) × LeadsToBoth c place other way
-LeadsTo c actor.B place way = (other : ℕ) × LeadsToBoth c other place way
+LeadsTo c actor.P place interleaving = (edges : List Edge) × LeadsIn c actor.P edges place × (interleaving ≡ staged actor.P edges)
+LeadsTo c actor.A place interleaving = (other : ℕ) × LeadsToBoth c place other interleaving
+LeadsTo c actor.B place interleaving = (other : ℕ) × LeadsToBoth c other place interleaving

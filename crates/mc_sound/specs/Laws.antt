@@ -30,25 +30,26 @@ SoundIsRight = (c : Code) (actor : Actor) (variables : List Tagged) (exchanges :
 abbrev pub LacksNoFlag : Code → Type 0
 LacksNoFlag c = (value : Bool) (actor : Actor) (place : ℕ) → MayLackFlag c value actor place → ⊥
 
--- whatever way the code is gone, each call finds the flags as it needs them, and so does the one that a section is about to make
+-- along each interleaving of the code, each call finds the flags as it needs them, and so does the one that a section is about to make
 abbrev pub IsAlwaysAdmitted : Code → Type 0
-IsAlwaysAdmitted c = (actor : Actor) (place : ℕ) (way : List Stage) (t : Template) → LeadsTo c actor place way
-    → SendsAt c actor place t → IsAdmitted all_clear (calls_along way ++ t ∷ [])
+IsAlwaysAdmitted c = (actor : Actor) (place : ℕ) (interleaving : List Stage) (t : Template) → LeadsTo c actor place interleaving
+    → SendsAt c actor place t → IsAdmitted all_clear (calls_along interleaving ++ t ∷ [])
 
--- a send that may lack a flag ends calls along a way that aren't admitted; and no send may, exactly where all are admitted
+-- a send that may lack a flag ends calls along an interleaving that aren't admitted; and no send may, exactly where all are admitted
 pub record LackIsNotAdmitted : Type 0 where
   pub ends : (c : Code) (value : Bool) (actor : Actor) (place : ℕ) → MayLackFlag c value actor place
-      → (way : List Stage) × (t : Template) × LeadsTo c actor place way × SendsAt c actor place t
-      × (IsAdmitted all_clear (calls_along way ++ t ∷ []) → ⊥)
+      → (interleaving : List Stage) × (t : Template) × LeadsTo c actor place interleaving × SendsAt c actor place t
+      × (IsAdmitted all_clear (calls_along interleaving ++ t ∷ []) → ⊥)
   pub none : (c : Code) → LacksNoFlag c ↔ IsAlwaysAdmitted c
 
--- whatever way sound code is gone, each call finds the flags as it needs them, and so does the one that a section is about to
--- make; a way is any merge of paths, and so may leave out the last call of either branch
+-- along each interleaving of sound code, each call finds the flags as it needs them, and so does the one that a section is about to
+-- make; an interleaving is any merge of paths, and so may leave out the last call of either branch
 pub record SoundIsAdmitted : Type 0 where
-  pub along : (c : Code) (actor : Actor) (place : ℕ) (way : List Stage) → IsSound c → LeadsTo c actor place way
-      → IsAdmitted all_clear (calls_along way)
-  pub next : (c : Code) (actor : Actor) (place : ℕ) (way : List Stage) (t : Template) → IsSound c → LeadsTo c actor place way
-      → SendsAt c actor place t → IsAdmitted all_clear (calls_along way ++ t ∷ [])
+  pub along : (c : Code) (actor : Actor) (place : ℕ) (interleaving : List Stage) → IsSound c → LeadsTo c actor place interleaving
+      → IsAdmitted all_clear (calls_along interleaving)
+  pub next : (c : Code) (actor : Actor) (place : ℕ) (interleaving : List Stage) (t : Template) → IsSound c
+      → LeadsTo c actor place interleaving
+      → SendsAt c actor place t → IsAdmitted all_clear (calls_along interleaving ++ t ∷ [])
 
 -- what a section may have sent: the calls of a path, or those of a path to a send and the send's own
 abbrev pub MaySend : Code → Actor → List Template → Type 0

@@ -17,7 +17,7 @@ pub fn sound_is_right()
     ensures { SoundIsRight }
 {}
 
-/// Code has a fault of flags exactly where calls along some way, and a send that they lead to, aren't admitted.
+/// Code has a fault of flags exactly where calls along some interleaving, and a send that they lead to, aren't admitted.
 pub fn lack_is_not_admitted()
     ensures { LackIsNotAdmitted }
 {}

@@ -1,4 +1,4 @@
--- The replies along ways, and what one more move adds to them.
+-- The replies along interleavings, and what one more move adds to them.
 use Rattle.std.proofs.Common.{◌≡◌, List, [], ◌∷◌, ◌++◌, ap, sym, ◌∙◌}
 use Rattle.std.proofs.lemmas.List.{append_assoc, map-append}
 use Rattle.mc_protocol.specs.{declared.actor.Actor.Actor, declared.reply.Class.Class}
@@ -13,11 +13,11 @@ pub staged_one_more : (actor : Actor) (edges : List Edge) (t : Template) (class 
 staged_one_more actor edges t class = map-append (λ (edge : Edge). (actor, edge)) edges ((t, class) ∷ [])
 
 -- its reply
-pub replies_one_more : (way : List Stage) (actor : Actor) (t : Template) (class : Class)
-    → replies_along (way ++ (actor, (t, class)) ∷ []) ≡ replies_along way ++ (actor, class) ∷ []
-replies_one_more way actor t class = map-append (λ (stage : Stage). (stage.0, stage.1.1)) way ((actor, (t, class)) ∷ [])
+pub replies_one_more : (interleaving : List Stage) (actor : Actor) (t : Template) (class : Class)
+    → replies_along (interleaving ++ (actor, (t, class)) ∷ []) ≡ replies_along interleaving ++ (actor, class) ∷ []
+replies_one_more interleaving actor t class = map-append (λ (stage : Stage). (stage.0, stage.1.1)) interleaving ((actor, (t, class)) ∷ [])
 
--- one more edge of the section, behind a way
+-- one more edge of the section, behind an interleaving
 pub front_one_more : (front : List Stage) (actor : Actor) (edges : List Edge) (t : Template) (class : Class)
     → replies_along (front ++ staged actor (edges ++ (t, class) ∷ [])) ≡ replies_along (front ++ staged actor edges) ++ (actor, class) ∷ []
 front_one_more front actor edges t class =
