@@ -1,29 +1,33 @@
 //! Runs of one script whose connections serve the next run too.
 ghost use Rattle.std.specs.Prelude.{◌≡◌, IfOk};
+ghost use Rattle.std.specs.Arc.{arc_value};
 ghost use Rattle.mc_command.specs.RunAnswers as answers;
 
 use crate::evidence::later_evidence;
 use crate::run::{Played, Ran, Remarks, no_connection, play_connections, status_of, wait_for_more};
 use mc_cli::RunArgs;
-use mc_connect::{Connection, Kept, Network, Unconnected};
+use mc_connect::{Connection, Kept, Network, Socket, Unconnected};
+use mc_lane::Wire;
+use mc_run::Desk;
 use mc_sound::Checked;
 use std::alloc::{AllocError, Global};
 use std::rt::Clock;
-use std::sync::Wait;
+use std::sync::{Arc, Wait};
 use std::thread::Threads;
 
 /// Runs the code over the connections that are kept, or else over new ones, and judges what came of it. One that the server has closed
 /// meanwhile, or on which bytes have come, is replaced before anything is sent. They are kept where the run is done and explained, and
-/// nothing more has come; with `target.reconnect` none are.
+/// nothing more has come; with `target.reconnect` none are. If there is a desk, no thread is made for the run.
 pub fn play_kept<R: Threads + Wait + Clock + Sync, N: Network>(
     rt: &R,
     alloc: Global,
     target: &RunArgs<'_>,
-    checked: &Checked,
+    checked: &Arc<Checked, Global>,
     network: &mut N,
     kept: &mut Kept<N::Connection>,
+    desk: Option<&Desk<Wire<Socket<N::Connection>>>>,
 ) -> Result<(Played, Remarks), AllocError>
-    ensures { IfOk result (λ played. answers.IsRightFor target.now.how.why checked.now.code played.0) }
+    ensures { IfOk result (λ played. answers.IsRightFor target.now.how.why (arc_value checked.now).code played.0) }
 {
     let connections = match kept.take_or_connect(network) {
         Ok(connections) => connections,
@@ -33,7 +37,7 @@ pub fn play_kept<R: Threads + Wait + Clock + Sync, N: Network>(
         played,
         remarks,
         connections,
-    } = play_connections(rt, alloc, target, checked, connections)?;
+    } = play_connections(rt, alloc, target, checked, connections, desk)?;
     if !target.reconnect && is_clean(&played, &remarks) {
         kept.keep(connections);
     } else {

@@ -1,5 +1,6 @@
 //! The command `run`, over any streams for input and output.
 ghost use Rattle.std.specs.Prelude.{◌≡◌, ℕ, ◌≤◌, List, length, None, IfOk, IfErr};
+ghost use Rattle.std.specs.Arc.{arc_value};
 ghost use Rattle.mc_answers.specs.Answers.{AnswersRightly, INPUT_LIMIT, IsAnswerBy, IsWhole};
 ghost use Rattle.mc_answers.specs.{Statuses.status_number, Streams.TakesAtMost, Writing.WritesRightly};
 ghost use Rattle.mc_answers.specs.Input as input_rule;
@@ -18,7 +19,7 @@ use mc_sound::Checked;
 use std::alloc::{AllocError, Global};
 use std::net::{Net, TcpStream};
 use std::rt::Clock;
-use std::sync::Wait;
+use std::sync::{Arc, Wait};
 use std::thread::Threads;
 
 /// Runs the script on the input against the server that `target` names as HOST:PORT, and answers the exit status. An
@@ -86,9 +87,9 @@ fn read_code<I: Source>(
     alloc: Global,
     target: &RunArgs<'_>,
     input: &mut I,
-) -> Result<Result<Checked, (Answer, Remarks)>, InputFault>
+) -> Result<Result<Arc<Checked, Global>, (Answer, Remarks)>, InputFault>
     ensures code { IfOk result (λ read. IfOk read (λ checked. (text : List ℕ) × IsWhole (I.left input.old) text
-        × (length text ≤ INPUT_LIMIT) × run_answers.SpellsUnder target.now.name text checked.code)) }
+        × (length text ≤ INPUT_LIMIT) × run_answers.SpellsUnder target.now.name text (arc_value checked).code)) }
     ensures unplayed { IfOk result (λ read. IfErr read (λ found. (text : List ℕ) × IsWhole (I.left input.old) text
         × IsAnswerBy (Runs target.now.repeat target.now.how.why target.now.name) text found.0.output.items found.0.status)) }
     ensures fails { input_rule.Fails (I.has_failed input.old) (I.has_failed input.new) result }
@@ -99,7 +100,10 @@ fn read_code<I: Source>(
         Err(too_long) => return Ok(Err((too_long, Remarks::None))),
     };
     match read_target_code(alloc, target, text.as_slice()) {
-        Ok(checked) => Ok(Ok(checked)),
+        Ok(checked) => match Arc::new(alloc, checked) {
+            Ok(shared) => Ok(Ok(shared)),
+            Err(_) => Err(InputFault::OutOfMemory),
+        },
         Err(unplayed) => Ok(Err(unplayed_answer(alloc, unplayed)?)),
     }
 }
@@ -111,10 +115,10 @@ fn write_code<R: Threads + Wait + Clock + Sync, N: Network, T: RunObserver, O: S
     target: &RunArgs<'_>,
     network: &mut N,
     observer: &mut T,
-    checked: &Checked,
+    checked: &Arc<Checked, Global>,
     output: &mut O,
 ) -> (Status, Remarks)
-    ensures { WritesRightly O.written O.has_failed (AnswersFor target.now.repeat target.now.how.why checked.now.code)
+    ensures { WritesRightly O.written O.has_failed (AnswersFor target.now.repeat target.now.how.why (arc_value checked.now).code)
         output.old output.new result.0 }
 {
     match target.repeat {
@@ -132,10 +136,10 @@ fn write_run<R: Threads + Wait + Clock + Sync, N: Network, T: RunObserver, O: Si
     target: &RunArgs<'_>,
     network: &mut N,
     observer: &mut T,
-    checked: &Checked,
+    checked: &Arc<Checked, Global>,
     output: &mut O,
 ) -> (Status, Remarks)
-    ensures { WritesRightly O.written O.has_failed (run_answers.PlaysFor target.now.how.why checked.now.code)
+    ensures { WritesRightly O.written O.has_failed (run_answers.PlaysFor target.now.how.why (arc_value checked.now).code)
         output.old output.new result.0 }
 {
     match answer_of_run(rt, alloc, target, network, observer, checked) {
@@ -154,9 +158,9 @@ fn answer_of_run<R: Threads + Wait + Clock + Sync, N: Network, T: RunObserver>(
     target: &RunArgs<'_>,
     network: &mut N,
     observer: &mut T,
-    checked: &Checked,
+    checked: &Arc<Checked, Global>,
 ) -> Result<(Answer, Remarks), AllocError>
-    ensures { IfOk result (λ found. run_answers.PlaysFor target.now.how.why checked.now.code
+    ensures { IfOk result (λ found. run_answers.PlaysFor target.now.how.why (arc_value checked.now).code
         found.0.output.items found.0.status) }
 {
     let (played, remarks) = play_code(rt, alloc, target, network, checked)?;

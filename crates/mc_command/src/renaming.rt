@@ -3,6 +3,8 @@
 //! The server may act on such a request at any time. What a later run of the same keys received might have no explanation then, though
 //! nothing is wrong.
 ghost use Rattle.std.specs.Prelude.{◌≡◌, None, Some, IfOk, true};
+ghost use Rattle.std.specs.Arc.{arc_value};
+ghost use Rattle.std.specs.{declared.alloc.Global.Global, declared.sync.Arc.Arc};
 ghost use Rattle.mc_model.specs.History as histories;
 ghost use Rattle.mc_sound.specs.Checked.{Checked};
 ghost use Rattle.mc_command.specs.RepeatAnswers as answers;
@@ -16,6 +18,7 @@ use mc_settings::Namespace;
 use mc_sound::Checked;
 use std::alloc::{AllocError, Global};
 use std::rt::Clock;
+use std::sync::Arc;
 
 // How many characters a name has.
 const NAME_LENGTH: usize = 8;
@@ -27,7 +30,7 @@ const CHARACTERS: &[u8; 32] = b"abcdefghijklmnopqrstuvwxyz234567";
 #[derive(Drop)]
 pub struct Renaming {
     /// The code under the last name, if there was one.
-    under: Option<Checked>,
+    under: Option<Arc<Checked, Global>>,
     // The number that the next name spells. It begins with the microseconds since 1970, and a run takes more than one, so the names of
     // any two runs on a machine differ for twelve days.
     next: u64,
@@ -46,8 +49,8 @@ impl Renaming {
     }
 
     /// What is played of this code: the code itself, or it under the last name.
-    pub fn code<'a>(&'a self, written: &'a Checked) -> &'a Checked
-        ensures { result.now.code ≡ code_of self.now.under written.now.code }
+    pub fn code<'a>(&'a self, written: &'a Arc<Checked, Global>) -> &'a Arc<Checked, Global>
+        ensures { (arc_value result.now).code ≡ code_of self.now.under (arc_value written.now).code }
     {
         match &self.under {
             Some(under) => under,
@@ -57,8 +60,8 @@ impl Renaming {
 
     /// Puts the code under a name that no run had, and answers whether one fits its keys.
     pub fn rename(&mut self, alloc: Global, written: &Checked) -> Result<bool, AllocError>
-        ensures renamed { IfOk result (λ fits. fits ≡ true → (under : Checked) × (self.new.under ≡ Some under)
-            × answers.IsUnderSome written.now.code under.code) }
+        ensures renamed { IfOk result (λ fits. fits ≡ true → (under : Arc Checked Global) × (self.new.under ≡ Some under)
+            × answers.IsUnderSome written.now.code (arc_value under).code) }
     {
         let characters = name_of(self.next);
         self.next = self.next.wrapping_add(1);
@@ -67,7 +70,7 @@ impl Renaming {
         };
         match put_code_under(alloc, written, &name) {
             Ok(under) => {
-                self.under = Some(under);
+                self.under = Some(Arc::new(alloc, under)?);
                 Ok(true)
             }
             Err(Unplayed::OutOfMemory) => Err(AllocError),

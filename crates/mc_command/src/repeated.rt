@@ -1,5 +1,6 @@
 //! What `run` writes where a script is run repeatedly.
 ghost use Rattle.std.specs.Prelude.{◌≡◌, Bool, false, true, string_bytes, IfOk};
+ghost use Rattle.std.specs.Arc.{arc_value};
 ghost use Rattle.mc_code.specs.Code.{Code};
 ghost use Rattle.mc_answers.specs.Writing.{WritesRightly};
 ghost use Rattle.mc_command.specs.RepeatAnswers as answers;
@@ -12,18 +13,20 @@ use crate::run_teller::RunObserver;
 use crate::totals::Totals;
 use mc_answers::{InputFault, Sink, Status, write_fault, write_text};
 use mc_cli::{Repeat, RunArgs};
-use mc_connect::{Connection, Kept, Network};
+use mc_connect::{Connection, Kept, Network, Socket};
+use mc_lane::Wire;
+use mc_run::{Desk, FreeGate};
 use mc_sound::Checked;
 use std::alloc::{AllocError, Global};
 use std::io;
 use std::rt::Clock;
-use std::sync::Wait;
-use std::thread::Threads;
+use std::sync::{Arc, Wait};
+use std::thread::{self, Threads};
 use std::time::Instant;
 
-/// Runs the code as often as `repeat` says. It writes which run is handed out, that run, and the totals of all, and answers its status,
-/// with what standard error is to say of it. With `repeat.keep_going` a run whose status isn't 0 is written as soon as it has ended, and
-/// the totals once all have.
+/// Runs the code as often as `repeat` says, with one second thread for all runs. It writes which run is handed out, that run, and the
+/// totals of all, and answers its status, with what standard error is to say of it. With `repeat.keep_going` a run whose status isn't 0 is
+/// written as soon as it has ended, and the totals once all have.
 pub fn write_runs<R: Threads + Wait + Clock + Sync, N: Network, T: RunObserver, O: Sink>(
     rt: &R,
     alloc: Global,
@@ -31,10 +34,10 @@ pub fn write_runs<R: Threads + Wait + Clock + Sync, N: Network, T: RunObserver, 
     repeat: Repeat,
     network: &mut N,
     observer: &mut T,
-    checked: &Checked,
+    checked: &Arc<Checked, Global>,
     output: &mut O,
 ) -> (Status, Remarks)
-    ensures { WritesRightly O.written O.has_failed (answers.RepeatsFor repeat target.now.how.why checked.now.code)
+    ensures { WritesRightly O.written O.has_failed (answers.RepeatsFor repeat target.now.how.why (arc_value checked.now).code)
         output.old output.new result.0 }
 {
     let mut kept = Kept::new(alloc);
@@ -46,23 +49,56 @@ pub fn write_runs<R: Threads + Wait + Clock + Sync, N: Network, T: RunObserver, 
     written
 }
 
+// The first runs, with a second thread that is kept until they have ended. If it can't be made, each run tries to make its own.
+fn first_beside<R: Threads + Wait + Clock + Sync, N: Network, T: RunObserver>(
+    rt: &R,
+    alloc: Global,
+    target: &RunArgs<'_>,
+    repeat: Repeat,
+    begun: &io::Result<Instant>,
+    checked: &Arc<Checked, Global>,
+    network: &mut N,
+    observer: &mut T,
+    kept: &mut Kept<N::Connection>,
+) -> Result<Runs, AllocError>
+    ensures { IfOk result (λ runs. AreFirst repeat target.now.how.why (arc_value checked.now).code runs) }
+{
+    let (desk, second) = Desk::new(rt, alloc, 1)?;
+    thread::scope(
+        thread::scope_env(),
+        rt,
+        move |scope| -> Result<Runs, AllocError>
+            ensures { IfOk result (λ runs. AreFirst repeat target.entry.now.how.why (arc_value checked.entry.now).code runs) }
+        {
+            let serve = move || second.serve(rt, alloc, &FreeGate);
+            let is_served = scope.spawn(serve).is_ok();
+            let lent = is_served.then_some(&desk);
+            let runs = first_runs(
+                rt, alloc, target, repeat, begun, checked, network, observer, kept, lent,
+            );
+            drop(desk);
+            runs
+        },
+    )
+}
+
 // The same over the connections that are kept.
 fn write_over<R: Threads + Wait + Clock + Sync, N: Network, T: RunObserver, O: Sink>(
     rt: &R,
     alloc: Global,
     target: &RunArgs<'_>,
     repeat: Repeat,
-    checked: &Checked,
+    checked: &Arc<Checked, Global>,
     network: &mut N,
     observer: &mut T,
     kept: &mut Kept<N::Connection>,
     output: &mut O,
 ) -> (Status, Remarks)
-    ensures { WritesRightly O.written O.has_failed (answers.RepeatsFor repeat target.now.how.why checked.now.code)
+    ensures { WritesRightly O.written O.has_failed (answers.RepeatsFor repeat target.now.how.why (arc_value checked.now).code)
         output.old output.new result.0 }
 {
     let begun = Instant::now(rt);
-    let first = first_runs(
+    let first = first_beside(
         rt, alloc, target, repeat, &begun, checked, network, observer, kept,
     );
     observer.give_way();
@@ -128,17 +164,17 @@ fn write_and_go_on<R: Threads + Wait + Clock + Sync, N: Network, T: RunObserver,
     target: &RunArgs<'_>,
     repeat: Repeat,
     begun: &io::Result<Instant>,
-    checked: &Checked,
+    checked: &Arc<Checked, Global>,
     network: &mut N,
     observer: &mut T,
     kept: &mut Kept<N::Connection>,
     first: Runs,
     output: &mut O,
 ) -> (Status, Remarks)
-    requires first { AreFirst repeat target.now.how.why checked.now.code first }
+    requires first { AreFirst repeat target.now.how.why (arc_value checked.now).code first }
     requires failed { answers.succeeds first.played ≡ false }
     requires keeps_going { repeat.keep_going ≡ true }
-    ensures { WritesRightly O.written O.has_failed (answers.RepeatsFor repeat target.now.how.why checked.now.code)
+    ensures { WritesRightly O.written O.has_failed (answers.RepeatsFor repeat target.now.how.why (arc_value checked.now).code)
         output.old output.new result.0 }
 {
     let Ok(text) = found_text(alloc, repeat.times, &first) else {
@@ -166,16 +202,16 @@ fn totals_line<R: Threads + Wait + Clock + Sync, N: Network, T: RunObserver>(
     target: &RunArgs<'_>,
     repeat: Repeat,
     begun: &io::Result<Instant>,
-    checked: &Checked,
+    checked: &Arc<Checked, Global>,
     network: &mut N,
     observer: &mut T,
     kept: &mut Kept<N::Connection>,
     first: Runs,
 ) -> Result<String, AllocError>
-    requires first { AreFirst repeat target.now.how.why checked.now.code first }
+    requires first { AreFirst repeat target.now.how.why (arc_value checked.now).code first }
     requires failed { answers.succeeds first.played ≡ false }
     requires keeps_going { repeat.keep_going ≡ true }
-    ensures { IfOk result (λ line. answers.AreTotals repeat target.now.how.why checked.now.code first.number first.played
+    ensures { IfOk result (λ line. answers.AreTotals repeat target.now.how.why (arc_value checked.now).code first.number first.played
         (string_bytes line)) }
 {
     let totals = go_on_to_last(
@@ -191,22 +227,65 @@ fn go_on_to_last<R: Threads + Wait + Clock + Sync, N: Network, T: RunObserver>(
     target: &RunArgs<'_>,
     repeat: Repeat,
     begun: &io::Result<Instant>,
-    checked: &Checked,
+    checked: &Arc<Checked, Global>,
     network: &mut N,
     observer: &mut T,
     kept: &mut Kept<N::Connection>,
     first: Runs,
 ) -> Result<Totals, AllocError>
-    requires first { AreFirst repeat target.now.how.why checked.now.code first }
+    requires first { AreFirst repeat target.now.how.why (arc_value checked.now).code first }
     requires failed { answers.succeeds first.played ≡ false }
     requires keeps_going { repeat.keep_going ≡ true }
-    ensures { IfOk result (λ totals. answers.Comes repeat target.now.how.why checked.now.code first.number first.played totals) }
+    ensures { IfOk result (λ totals.
+        answers.Comes repeat target.now.how.why (arc_value checked.now).code first.number first.played totals) }
 {
-    let totals = go_on(
+    let totals = go_on_beside(
         rt, alloc, target, repeat, begun, checked, network, observer, kept, first,
     )?;
     tell_last(rt, alloc, totals.runs, observer, kept)?;
     Ok(totals)
+}
+
+// The runs after the one that is handed out, over a desk as the first ones.
+fn go_on_beside<R: Threads + Wait + Clock + Sync, N: Network, T: RunObserver>(
+    rt: &R,
+    alloc: Global,
+    target: &RunArgs<'_>,
+    repeat: Repeat,
+    begun: &io::Result<Instant>,
+    checked: &Arc<Checked, Global>,
+    network: &mut N,
+    observer: &mut T,
+    kept: &mut Kept<N::Connection>,
+    first: Runs,
+) -> Result<Totals, AllocError>
+    requires first { AreFirst repeat target.now.how.why (arc_value checked.now).code first }
+    requires failed { answers.succeeds first.played ≡ false }
+    requires keeps_going { repeat.keep_going ≡ true }
+    ensures { IfOk result (λ totals.
+        answers.Comes repeat target.now.how.why (arc_value checked.now).code first.number first.played totals) }
+{
+    let (desk, second) = Desk::new(rt, alloc, 1)?;
+    thread::scope(
+        thread::scope_env(),
+        rt,
+        move |scope| -> Result<Totals, AllocError>
+            requires first { AreFirst repeat target.now.how.why (arc_value checked.now).code first }
+            requires failed { answers.succeeds first.played ≡ false }
+            requires keeps_going { repeat.keep_going ≡ true }
+            ensures { IfOk result (λ totals.
+                answers.Comes repeat target.entry.now.how.why (arc_value checked.entry.now).code first.number first.played totals) }
+        {
+            let serve = move || second.serve(rt, alloc, &FreeGate);
+            let is_served = scope.spawn(serve).is_ok();
+            let lent = is_served.then_some(&desk);
+            let totals = go_on(
+                rt, alloc, target, repeat, begun, checked, network, observer, kept, lent, first,
+            );
+            drop(desk);
+            totals
+        },
+    )
 }
 
 // Tells the observer of the last run, which has this number, with what has come on its connections since.

@@ -1,5 +1,6 @@
 //! Runs of one script, one after another.
 ghost use Rattle.std.specs.Prelude.{◌≡◌, ◌<◌, ◌-◌, ◌^◌, ◌⊎◌, Bool, false, true, not, List, ◌∷◌, [], ◌++◌, length, IfOk, IfSome, None};
+ghost use Rattle.std.specs.Arc.{arc_value};
 ghost use Rattle.mc_code.specs.Code.{Code};
 ghost use Rattle.mc_command.specs.RepeatAnswers as answers;
 ghost use Rattle.mc_command.specs.{RunAnswers.IsRightFor, SoFar.AreFirst, SoFar.IsSoFar, declared.run.Played.Played};
@@ -10,12 +11,14 @@ use crate::run::{Played, Remarks, status_of};
 use crate::run_teller::RunObserver;
 use crate::totals::Totals;
 use mc_cli::{Repeat, RunArgs};
-use mc_connect::{Kept, Network};
+use mc_connect::{Kept, Network, Socket};
+use mc_lane::Wire;
+use mc_run::Desk;
 use mc_sound::Checked;
 use std::alloc::{AllocError, Global};
 use std::io;
 use std::rt::Clock;
-use std::sync::Wait;
+use std::sync::{Arc, Wait};
 use std::thread::Threads;
 use std::time::{Duration, Instant};
 
@@ -101,15 +104,16 @@ pub fn first_runs<R: Threads + Wait + Clock + Sync, N: Network, T: RunObserver>(
     target: &RunArgs<'_>,
     repeat: Repeat,
     begun: &io::Result<Instant>,
-    checked: &Checked,
+    checked: &Arc<Checked, Global>,
     network: &mut N,
     observer: &mut T,
     kept: &mut Kept<N::Connection>,
+    desk: Option<&Desk<Wire<Socket<N::Connection>>>>,
 ) -> Result<Runs, AllocError>
-    ensures { IfOk result (λ runs. AreFirst repeat target.now.how.why checked.now.code runs) }
+    ensures { IfOk result (λ runs. AreFirst repeat target.now.how.why (arc_value checked.now).code runs) }
 {
     let most = repeat.times.unwrap_or(u64::MAX);
-    let (played, remarks) = play_kept(rt, alloc, target, checked, network, kept)?;
+    let (played, remarks) = play_kept(rt, alloc, target, checked, network, kept, desk)?;
     observer.add(&played);
     let mut runs = Runs::new(played, remarks);
     'runs: for done in 1..most {
@@ -119,7 +123,7 @@ pub fn first_runs<R: Threads + Wait + Clock + Sync, N: Network, T: RunObserver>(
         if is_late(rt, begun, repeat.time) {
             return Ok(runs);
         }
-        let (played, remarks) = play_kept(rt, alloc, target, checked, network, kept)?;
+        let (played, remarks) = play_kept(rt, alloc, target, checked, network, kept, desk)?;
         observer.add(&played);
         observer.pass_over(runs.number, &runs.remarks);
         observer.pass_over(runs.number, &later_remarks(alloc, kept)?);
@@ -137,16 +141,18 @@ pub fn go_on<R: Threads + Wait + Clock + Sync, N: Network, T: RunObserver>(
     target: &RunArgs<'_>,
     repeat: Repeat,
     begun: &io::Result<Instant>,
-    checked: &Checked,
+    checked: &Arc<Checked, Global>,
     network: &mut N,
     observer: &mut T,
     kept: &mut Kept<N::Connection>,
+    desk: Option<&Desk<Wire<Socket<N::Connection>>>>,
     first: Runs,
 ) -> Result<Totals, AllocError>
-    requires first { AreFirst repeat target.now.how.why checked.now.code first }
+    requires first { AreFirst repeat target.now.how.why (arc_value checked.now).code first }
     requires failed { answers.succeeds first.played ≡ false }
     requires keeps_going { repeat.keep_going ≡ true }
-    ensures { IfOk result (λ totals. answers.Comes repeat target.now.how.why checked.now.code first.number first.played totals) }
+    ensures { IfOk result (λ totals.
+        answers.Comes repeat target.now.how.why (arc_value checked.now).code first.number first.played totals) }
 {
     let most = repeat.times.unwrap_or(u64::MAX);
     let mut runs = first;
@@ -161,7 +167,7 @@ pub fn go_on<R: Threads + Wait + Clock + Sync, N: Network, T: RunObserver>(
             return Ok(runs.totals);
         }
         let code = renaming.code(checked);
-        let (played, remarks) = play_kept(rt, alloc, target, code, network, kept)?;
+        let (played, remarks) = play_kept(rt, alloc, target, code, network, kept, desk)?;
         observer.add(&played);
         observer.pass_over(runs.totals.runs, &later_remarks(alloc, kept)?);
         observer.pass_over(runs.totals.runs.saturating_add(1), &remarks);
@@ -174,12 +180,12 @@ pub fn go_on<R: Threads + Wait + Clock + Sync, N: Network, T: RunObserver>(
 fn make_ready(
     alloc: Global,
     runs: &Runs,
-    checked: &Checked,
+    checked: &Arc<Checked, Global>,
     renaming: &mut Renaming,
 ) -> Result<bool, AllocError>
-    requires under { IfSome renaming.old.under (λ under. answers.IsUnderSome checked.now.code under.code) }
+    requires under { IfSome renaming.old.under (λ under. answers.IsUnderSome (arc_value checked.now).code (arc_value under).code) }
     ensures under { IfOk result (λ ready. ready ≡ true
-        → IfSome renaming.new.under (λ under. answers.IsUnderSome checked.now.code under.code)) }
+        → IfSome renaming.new.under (λ under. answers.IsUnderSome (arc_value checked.now).code (arc_value under).code)) }
     ensures same { IfOk result (λ ready. ready ≡ true → (renaming.new.under ≡ renaming.old.under) ⊎ (runs.now.unsettled ≡ true)) }
     ensures ends { IfOk result (λ ready. ready ≡ false → runs.now.unsettled ≡ true) }
 {

@@ -1,5 +1,9 @@
 //! A run of code against a server, and what is written of it.
+ghost use Rattle.std.specs.Arc.{arc_value};
 ghost use Rattle.std.specs.Prelude.{◌≡◌, IfOk};
+ghost use Rattle.mc_code.specs.Code.{Code};
+ghost use Rattle.mc_run.specs.Running.{AreNew};
+ghost use Rattle.mc_trial.specs.Judged.{IsJudged};
 ghost use Rattle.mc_command.specs.RunAnswers as answers;
 
 use crate::evidence::evidence_of;
@@ -12,16 +16,16 @@ use mc_connect::{Connection, Kept, Network, Socket, Unconnected};
 use mc_core::World;
 use mc_explain::Verdict;
 use mc_history::print_history;
-use mc_lane::Wire;
+use mc_lane::{Stream, Wire};
 use mc_model::History;
 use mc_protocol::{Actor, Sections};
-use mc_run::{FreeGate, Lanes, Run, RunError};
+use mc_run::{Desk, FreeGate, Lanes, Run, RunError};
 use mc_sound::Checked;
-use mc_trial::{Judged, play};
+use mc_trial::{Judged, play, play_beside};
 use std::alloc::{AllocError, Global};
 use std::io;
 use std::rt::Clock;
-use std::sync::Wait;
+use std::sync::{Arc, Wait};
 use std::thread::{Threads, sleep};
 use std::time::Duration;
 
@@ -68,13 +72,15 @@ pub fn play_code<R: Threads + Wait + Clock + Sync, N: Network>(
     alloc: Global,
     target: &RunArgs<'_>,
     network: &mut N,
-    checked: &Checked,
+    checked: &Arc<Checked, Global>,
 ) -> Result<(Played, Remarks), AllocError>
-    ensures { IfOk result (λ played. answers.IsRightFor target.now.how.why checked.now.code played.0) }
+    ensures { IfOk result (λ played. answers.IsRightFor target.now.how.why (arc_value checked.now).code played.0) }
 {
     match Kept::new(alloc).take_or_connect(network) {
         Ok(connections) => {
-            let ran = play_connections(rt, alloc, target, checked, connections)?;
+            let lanes = new_lanes(alloc, connections);
+            let judged = play_alone(rt, alloc, target, checked, lanes);
+            let ran = end_run(rt, alloc, target, judged)?;
             Ok((ran.played, ran.remarks))
         }
         Err(Unconnected { section, error }) => Ok(no_connection(section, error)),
@@ -91,20 +97,43 @@ pub fn no_connection(section: Actor, error: io::Error) -> (Played, Remarks)
     )
 }
 
-/// The same over connections that are there.
+/// The same over connections that are there. If there is a desk, no thread is made for the run.
 pub fn play_connections<R: Threads + Wait + Clock + Sync, C: Connection>(
     rt: &R,
     alloc: Global,
     target: &RunArgs<'_>,
-    checked: &Checked,
+    checked: &Arc<Checked, Global>,
     connections: Sections<C>,
+    desk: Option<&Desk<Wire<Socket<C>>>>,
 ) -> Result<Ran<C>, AllocError>
-    ensures { IfOk result (λ ran. answers.IsRightFor target.now.how.why checked.now.code ran.played) }
+    ensures { IfOk result (λ ran. answers.IsRightFor target.now.how.why (arc_value checked.now).code ran.played) }
 {
     let lanes = new_lanes(alloc, connections);
+    let judged = match desk {
+        Some(desk) => {
+            let meet = draw_meet(rt, target.meeting, target.spread);
+            let limit = target.how.limit;
+            play_beside(rt, alloc, checked, lanes, &FreeGate, desk, meet, limit)
+        }
+        None => play_alone(rt, alloc, target, checked, lanes),
+    };
+    end_run(rt, alloc, target, judged)
+}
+
+// Runs the code over the lanes, with a thread of its own for a branch.
+fn play_alone<R: Threads + Wait + Clock + Sync, S: Stream + Send>(
+    rt: &R,
+    alloc: Global,
+    target: &RunArgs<'_>,
+    checked: &Arc<Checked, Global>,
+    lanes: Lanes<S>,
+) -> Result<Judged<S>, RunError>
+    requires new { AreNew lanes }
+    ensures judged { IfOk result (λ j. IsJudged (arc_value checked.now).code j.run.world j.run.lanes j.history j.verdict) }
+{
     let meet = draw_meet(rt, target.meeting, target.spread);
     let limit = target.how.limit;
-    let judged = match play(
+    play(
         rt,
         alloc,
         checked,
@@ -113,7 +142,20 @@ pub fn play_connections<R: Threads + Wait + Clock + Sync, C: Connection>(
         Stack::new(),
         meet,
         limit,
-    ) {
+    )
+}
+
+// What came of a run that was judged, or why there is none. Its lanes are closed.
+fn end_run<R: Clock, C: Connection>(
+    rt: &R,
+    alloc: Global,
+    target: &RunArgs<'_>,
+    judged: Result<Judged<Wire<Socket<C>>>, RunError>,
+) -> Result<Ran<C>, AllocError>
+    ensures { (code : Code) → IfOk judged (λ j. IsJudged code j.run.world j.run.lanes j.history j.verdict)
+        → IfOk result (λ ran. answers.IsRightFor target.now.how.why code ran.played) }
+{
+    let judged = match judged {
         Ok(judged) => judged,
         Err(RunError::OutOfMemory) => return Err(AllocError),
         Err(RunError::BookMismatch | RunError::NoThread) => return Ok(not_run()),

@@ -20,7 +20,7 @@ use std::alloc::Global;
 use std::io::Eprint;
 use std::net::{Ipv4Addr, Net, SocketAddr, TcpListener, TcpStream};
 use std::rt::Clock;
-use std::sync::Wait;
+use std::sync::{Arc, Wait};
 use std::thread::Threads;
 use std::time::Duration;
 use std::{io, thread};
@@ -209,6 +209,9 @@ where
         ..RunArgs::at(server, how)
     };
     let Ok(checked) = read_target_code(alloc, &target, TWO_INCREMENTS) else {
+        return false;
+    };
+    let Ok(checked) = Arc::new(alloc, checked) else {
         return false;
     };
     let mut network = TcpNetwork::new(rt, servers_of(&target));

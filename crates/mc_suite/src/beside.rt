@@ -109,7 +109,8 @@ impl Beside {
         }
     }
 
-    fn fail<R: Wait>(&self, rt: &R) {
+    /// Memory ran out for the second thread.
+    pub(crate) fn fail<R: Wait>(&self, rt: &R) {
         self.papers.lock(rt).is_short = true;
     }
 

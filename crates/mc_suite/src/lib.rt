@@ -14,6 +14,7 @@ mod book;
 mod clash;
 mod clocked;
 mod crowd;
+mod desk;
 mod end_text;
 mod evidence;
 mod finding;

@@ -4,6 +4,7 @@ use crate::beside::Latest;
 use crate::clash::Clash;
 use crate::clocked::Slowest;
 use crate::crowd::{Crowd, Gathered};
+use crate::desk::DeskOf;
 use crate::health::Health;
 use crate::names::Names;
 use crate::numbers::Grouped;
@@ -37,6 +38,8 @@ pub(crate) struct Player<'a, R, N: Network> {
     pub(crate) target: RunArgs<'a>,
     network: &'a mut N,
     kept: Kept<N::Connection>,
+    // At its other end a thread runs one branch of each run. If there is none, a run makes a thread.
+    desk: Option<DeskOf<N>>,
     slowest: &'a Slowest,
     names: Names,
     /// When the test began.
@@ -75,6 +78,7 @@ impl<'a, R: Threads + Wait + Clock + Sync + Eprint, N: Network> Player<'a, R, N>
         alloc: Global,
         target: RunArgs<'a>,
         network: &'a mut N,
+        desk: Option<DeskOf<N>>,
         slowest: &'a Slowest,
         begun: Instant,
         time: Duration,
@@ -87,6 +91,7 @@ impl<'a, R: Threads + Wait + Clock + Sync + Eprint, N: Network> Player<'a, R, N>
             target,
             network,
             kept: Kept::new(alloc),
+            desk,
             slowest,
             names: Names::new(rt),
             begun,
@@ -130,6 +135,7 @@ impl<'a, R: Threads + Wait + Clock + Sync + Eprint, N: Network> Player<'a, R, N>
             code,
             &mut *self.network,
             &mut self.kept,
+            self.desk.as_ref(),
         )?;
         if leaves_request(&played) {
             self.names.renew();
@@ -266,7 +272,7 @@ impl<'a, R: Threads + Wait + Clock + Sync + Eprint, N: Network> Player<'a, R, N>
         Ok(tries)
     }
 
-    /// Gives the connections back.
+    /// Gives the connections back, and has the thread at the desk's other end stop.
     pub(crate) fn quit(self) {
         let Player { kept, network, .. } = self;
         kept.quit(network);

@@ -6,11 +6,12 @@ use mc_generate::{PutFault, put_under};
 use mc_settings::Namespace;
 use mc_sound::Checked;
 use std::alloc::{AllocError, Global};
+use std::sync::Arc;
 
 /// Code, and the same under the last name.
 pub(crate) struct Prepared {
     written: Checked,
-    under: Option<Checked>,
+    under: Option<Arc<Checked, Global>>,
     // How many names there were before that one.
     count: u64,
 }
@@ -51,7 +52,7 @@ impl Prepared {
         alloc: Global,
         given: Option<&Namespace<'_>>,
         names: &Names,
-    ) -> Result<Option<&Checked>, AllocError> {
+    ) -> Result<Option<&Arc<Checked, Global>>, AllocError> {
         if self.under.is_none() || self.count != names.count {
             self.under = code_under(alloc, &self.written, given, names)?;
             self.count = names.count;
@@ -65,7 +66,7 @@ fn code_under(
     written: &Checked,
     given: Option<&Namespace<'_>>,
     names: &Names,
-) -> Result<Option<Checked>, AllocError> {
+) -> Result<Option<Arc<Checked, Global>>, AllocError> {
     let Some(own) = names.name() else {
         return Ok(None);
     };
@@ -77,7 +78,10 @@ fn code_under(
         None => put_under(alloc, written.code(), &own),
     };
     match under {
-        Ok(code) => Ok(verify_code(alloc, code)?.ok()),
+        Ok(code) => match verify_code(alloc, code)? {
+            Ok(checked) => Ok(Some(Arc::new(alloc, checked)?)),
+            Err(_) => Ok(None),
+        },
         Err(PutFault::KeyTooLong(_)) => Ok(None),
         Err(PutFault::OutOfMemory) => Err(AllocError),
     }

@@ -2,6 +2,7 @@
 
 use crate::beside::{Beside, has_processors, play_beside};
 use crate::clocked::{ClockedNetwork, Slowest};
+use crate::desk::serve_desk;
 use crate::generated::Generated;
 use crate::player::Player;
 use crate::target::target_of;
@@ -14,7 +15,7 @@ use std::io::Eprint;
 use std::net::{Net, TcpListener, TcpStream};
 use std::rt::Clock;
 use std::sync::Wait;
-use std::thread::{Builder, JoinHandle, Scope, Threads};
+use std::thread::{self, Builder, JoinHandle, Scope, Threads};
 use std::time::{Duration, Instant};
 
 /// What a second thread plays with.
@@ -75,7 +76,7 @@ where
     play_over(rt, alloc, target, &mut network, slowest, orders, beside);
 }
 
-// The same over these connections.
+// The same over these connections, with one more thread for a branch of each run.
 fn play_over<R: Threads + Wait + Clock + Sync + Eprint, N: Network>(
     rt: &R,
     alloc: Global,
@@ -91,7 +92,12 @@ fn play_over<R: Threads + Wait + Clock + Sync + Eprint, N: Network>(
         begun,
         time,
     } = orders;
-    let mut player = Player::new(rt, alloc, target, network, slowest, begun, time, None);
-    play_beside(&mut player, &unsupported, generated, beside);
-    player.quit();
+    thread::scope(thread::scope_env(), rt, move |scope| {
+        let Ok(desk) = serve_desk(rt, alloc, scope) else {
+            return beside.fail(rt);
+        };
+        let mut player = Player::new(rt, alloc, target, network, desk, slowest, begun, time, None);
+        play_beside(&mut player, &unsupported, generated, beside);
+        player.quit();
+    })
 }

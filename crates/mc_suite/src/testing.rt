@@ -3,6 +3,7 @@
 use crate::beside::{Beside, tell_news};
 use crate::book::{Book, State};
 use crate::clocked::{ClockedNetwork, Slowest};
+use crate::desk::{DeskOf, serve_desk};
 use crate::finding::keep_reports;
 use crate::folder::{DiskFolder, Folder};
 use crate::generated::Generated;
@@ -95,19 +96,7 @@ where
     let folder = DiskFolder::new(rt, alloc, args.out);
     let mut report = Report::new(alloc, output, args.run.json, folder, book);
     match reached {
-        Ok(true) => {
-            let network = TcpNetwork::new(rt, servers_of(&target));
-            let mut network = ClockedNetwork::new(rt, network, second.slowest);
-            run_test(
-                alloc,
-                target,
-                &mut network,
-                columns,
-                &mut report,
-                second,
-                scope,
-            )
-        }
+        Ok(true) => test_reached(alloc, target, columns, &mut report, second, scope),
         Ok(false) => end_untested(&mut report, Ok(())),
         Err(error) => end_untested(&mut report, Err(error)),
     }
@@ -223,10 +212,42 @@ fn generated_of(book: &Book<'_>) -> Generated {
     Generated::new(book.seed, book.selection.only.is_none())
 }
 
+// Tests a server that can be reached.
+fn test_reached<'s, E, R, O: Sink, F: Folder>(
+    alloc: Global,
+    target: RunArgs<'s>,
+    columns: Option<usize>,
+    report: &mut Report<'_, O, F>,
+    second: &Second<'s, R>,
+    scope: &Scope<'s, E>,
+) -> u8
+where
+    R: Net<Listener = TcpListener, Stream = TcpStream> + Threads + Wait + Clock + Sync + Eprint,
+{
+    let rt = second.rt;
+    let network = TcpNetwork::new(rt, servers_of(&target));
+    let mut network = ClockedNetwork::new(rt, network, second.slowest);
+    match serve_desk(rt, alloc, scope) {
+        Ok(desk) => run_test(
+            alloc,
+            target,
+            &mut network,
+            desk,
+            columns,
+            report,
+            second,
+            scope,
+        ),
+        Err(error) => end_untested(report, Err(error)),
+    }
+}
+
+// The same over these connections, and over this desk.
 fn run_test<'s, E, R, N: Network + Clients, O: Sink, F: Folder>(
     alloc: Global,
     target: RunArgs<'_>,
     network: &mut N,
+    desk: Option<DeskOf<N>>,
     columns: Option<usize>,
     report: &mut Report<'_, O, F>,
     second: &Second<'s, R>,
@@ -240,7 +261,9 @@ where
         return end_untested(report, Ok(()));
     };
     let time = report.book.time;
-    let mut player = Player::new(rt, alloc, target, network, slowest, begun, time, columns);
+    let mut player = Player::new(
+        rt, alloc, target, network, desk, slowest, begun, time, columns,
+    );
     let status = play_all(&mut player, report, second, scope);
     player.quit();
     status

@@ -1,6 +1,6 @@
 //! `run` against a server in the same process, which answers three connections.
 
-use crate::script::SCRIPT;
+use crate::script::{SCRIPT, is_of_both};
 use mc_answers::{Reader, Writer};
 use mc_cli::Search;
 use mc_command::run_command;
@@ -13,39 +13,12 @@ use std::test::Fail;
 use std::thread::Threads;
 use std::{io, thread};
 
-// What is written before the history.
-const FRONT: &str = "P done
-A done
-B done
-explained
-P 0
-P 1
-A 2
-B 3
-end
-history 2
-P begin delete a
-P reply NOT_FOUND
-P begin set a 0 =5
-P reply STORED
-";
-
-// The history of the branches: the server answers A first, and only once both requests have come. Which one is noted first, and where B's
-// request stands beside A's, is up to the threads.
-static BRANCHES: [&str; 4] = [
-    "A begin incr a 1\nB begin incr a 1\nA reply NUMBER 6\nB reply NUMBER 7\nend\n",
-    "A begin incr a 1\nB begin incr a 1\nB reply NUMBER 7\nA reply NUMBER 6\nend\n",
-    "B begin incr a 1\nA begin incr a 1\nA reply NUMBER 6\nB reply NUMBER 7\nend\n",
-    "B begin incr a 1\nA begin incr a 1\nB reply NUMBER 7\nA reply NUMBER 6\nend\n",
-];
-
 #[test]
 fn run_speaks_with_a_listener(rt: HostRuntime) -> Result<(), Fail> {
     let mut output = Vec::new(rt.alloc());
     let ended = run_at_listener(&rt, rt.alloc(), &mut output)?;
     assert_eq!(rt; ended, Some(0));
-    let branches = output.as_slice().strip_prefix(FRONT.as_bytes());
-    assert!(rt; BRANCHES.iter().any(|one| branches == Some(one.as_bytes())));
+    assert!(rt; is_of_both(output.as_slice()));
     Ok(())
 }
 

@@ -1,4 +1,5 @@
 use Rattle.std.proofs.Common.{inl, inr, refl}
+use Rattle.std.specs.Arc.{arc_value}
 use Rattle.mc_answers.proofs.Right.{answer_written, fault_written}
 use Rattle.mc_answers.specs.Answers.{IsAnswerBy}
 use Rattle.mc_command.specs.RepeatAnswers.{AnswersFor, Runs}
@@ -10,8 +11,8 @@ returns-in-Ok-Ok g c =
     let target = c.args.target.now in
     let read = rw c.in-Ok-Ok.field-0-is at c.in-Ok-Ok.ensures.code in
     code_written _ _ _ _ (Runs target.repeat target.how.why target.name)
-    (AnswersFor target.repeat target.how.why c.in-Ok-Ok.checked.code) _ _ _ _ read.0 _ read.1 read.2
-    (λ out end right. inl (c.in-Ok-Ok.checked.code, read.3, right))
+    (AnswersFor target.repeat target.how.why (arc_value c.in-Ok-Ok.checked).code) _ _ _ _ read.0 _ read.1 read.2
+    (λ out end right. inl ((arc_value c.in-Ok-Ok.checked).code, read.3, right))
     c.in-Ok-Ok.ensures.fails c.in-Ok-Ok.ensures.taken c.write_code.ensures
 
 pub returns-in-Ok-Err : goal.returns-in-Ok-Err

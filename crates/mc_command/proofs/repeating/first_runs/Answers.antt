@@ -1,5 +1,6 @@
 use Rattle.std.proofs.Common.{◌≡◌, ◌+◌, ◌<◌, ◌-◌, ◌^◌, ◌∙◌, ◌∷◌, [], ◌++◌, Option, ℕ, length, ap, inl, inr, sym, arith}
 use Rattle.std.proofs.lemmas.List.{length-append}
+use Rattle.std.specs.Arc.{arc_value}
 use Rattle.core.specs.Option.{unwrap_or}
 use Rattle.mc_command.specs.{RepeatAnswers.succeeds, declared.totals.Totals.Totals}
 use Rattle.mc_command.proofs.MoreRuns.{failed_by, succeeded_by}
@@ -7,7 +8,7 @@ use Rattle.mc_command.proofs.repeating.first_runs.Goals as goal
 
 pub runs-init : goal.runs-init
 runs-init g c =
-    let so = c.new-runs.ensures.so_far c.args.target.now.how.why c.args.checked.now.code c.in_ok-played.ensures in
+    let so = c.new-runs.ensures.so_far c.args.target.now.how.why (arc_value c.args.checked.now).code c.in_ok-played.ensures in
     let count = ap (λ (t : Totals). t.runs) so.totals in
     record {
       so_far = (c.in_ok-played.played ∷ [], so);
@@ -20,7 +21,7 @@ runs-preserved g c =
     let all = c.runs.invariant.so_far.0 in
     let so = c.runs.invariant.so_far.1 in
     let why = c.args.target.now.how.why in
-    let written = c.args.checked.now.code in
+    let written = (arc_value c.args.checked.now).code in
     let run = c.in_ok-played-2.played in
     let right = c.in_ok-played-2.ensures in
     let count = sym (ap (λ (t : Totals). t.runs) so.totals) ∙ c.runs.invariant.count in

@@ -1,5 +1,6 @@
 use Rattle.std.proofs.Common.{◌≡◌, ◌+◌, ◌<◌, ◌-◌, ◌^◌, ◌∙◌, ◌∷◌, [], ◌++◌, Option, ℕ, length, ap, inl, inr, refl, sym, arith}
 use Rattle.std.proofs.{lemmas.Bool.false≢true, lemmas.List.length-append}
+use Rattle.std.specs.Arc.{arc_value}
 use Rattle.core.specs.Option.{unwrap_or}
 use Rattle.mc_command.specs.{RepeatAnswers.AreSettled, RepeatAnswers.succeeds, declared.totals.Totals.Totals}
 use Rattle.mc_command.proofs.{KeyNames.none_settled, KeyNames.none_under, KeyNames.own_right, KeyNames.right_under, MoreRuns.settled_before, RunTexts.comes_on}
@@ -14,7 +15,7 @@ runs-init g c =
       number = refl;
       played = refl;
       failed = c.requires.failed;
-      under = none_under c.args.checked.now.code _ c.new-renaming.ensures;
+      under = none_under (arc_value c.args.checked.now).code _ c.new-renaming.ensures;
     }
 
 pub runs-preserved : goal.runs-preserved
@@ -24,7 +25,7 @@ runs-preserved g c =
     let own = c.runs.invariant.so_far.2 in
     let failed = c.runs.invariant.failed in
     let why = c.args.target.now.how.why in
-    let written = c.args.checked.now.code in
+    let written = (arc_value c.args.checked.now).code in
     let run = c.in_ok-played.played in
     let ready = c.if-not-ready.false in
     let same = c.in_ok-ready.ensures.same ready in
@@ -59,7 +60,7 @@ runs-preserved g c =
 
 pub returns-then-is_late : goal.returns-then-is_late
 returns-then-is_late g c =
-    comes_on c.args.repeat c.args.target.now.how.why c.args.checked.now.code c.runs.runs c.args.first
+    comes_on c.args.repeat c.args.target.now.how.why (arc_value c.args.checked.now).code c.runs.runs c.args.first
     c.runs.invariant.so_far.0 c.runs.invariant.so_far.1 c.runs.invariant.number c.runs.invariant.played c.requires.keeps_going
     c.runs.invariant.so_far.3 (λ none most is some. absurd (false≢true (sym (c.is_late.ensures none) ∙ c.if-is_late.true)))
 
@@ -67,7 +68,7 @@ pub returns-then-not-ready : goal.returns-then-not-ready
 returns-then-not-ready g c =
     let so = c.runs.invariant.so_far.1 in
     let unsettled = c.in_ok-ready.ensures.ends c.if-not-ready.true in
-    comes_on c.args.repeat c.args.target.now.how.why c.args.checked.now.code c.runs.runs c.args.first
+    comes_on c.args.repeat c.args.target.now.how.why (arc_value c.args.checked.now).code c.runs.runs c.args.first
     c.runs.invariant.so_far.0 so c.runs.invariant.number c.runs.invariant.played c.requires.keeps_going
     c.runs.invariant.so_far.3 (λ none most is some. inr (λ settled. false≢true (sym (so.settled settled) ∙ unsettled)))
 
@@ -75,7 +76,7 @@ pub returns : goal.returns
 returns g c =
     let all = c.runs.invariant.so_far.0 in
     let so = c.runs.invariant.so_far.1 in
-    comes_on c.args.repeat c.args.target.now.how.why c.args.checked.now.code c.runs.runs c.args.first
+    comes_on c.args.repeat c.args.target.now.how.why (arc_value c.args.checked.now).code c.runs.runs c.args.first
     all so c.runs.invariant.number c.runs.invariant.played c.requires.keeps_going c.runs.invariant.so_far.3
     (λ none most is some.
     let limit : c.unwrap_or-most.result ≡ most =
