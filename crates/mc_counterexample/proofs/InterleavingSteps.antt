@@ -32,7 +32,7 @@ pub record BothBegin (c : Code) (named : Actor) (places : Sections ℕ) (place_a
   pub interleaving_is : interleaving ≡ (actor, (t, class)) ∷ more
   pub rest_is : rest ≡ replies_along more
 
-pub record WayBegins (c : Code) (named : Actor) (places : Sections ℕ) (place : ℕ) (actor : Actor) (class : Class) (interleaving : List Stage)
+pub record InterleavingBegins (c : Code) (named : Actor) (places : Sections ℕ) (place : ℕ) (actor : Actor) (class : Class) (interleaving : List Stage)
     (rest : List (Actor × Class)) : Type 0 where
   pub t : Template
   pub others : Sections ℕ
@@ -164,12 +164,12 @@ both_begin c named branch places place_a place_b who cl interleaving rest both e
 
 p_begins : (c : Code) (places : Sections ℕ) (place : ℕ) (who : Actor) (cl : Class) (interleaving : List Stage) (rest : List (Actor × Class)) (edges : List Edge)
     → LeadsBetween c actor.P places.p edges place → interleaving ≡ staged actor.P edges → (who, cl) ∷ rest ≡ replies_along interleaving
-    → WayBegins c actor.P places place who cl interleaving rest
+    → InterleavingBegins c actor.P places place who cl interleaving rest
 p_begins c places place who cl interleaving rest [] path is e = absurd (no_first (who, cl) rest interleaving e is)
 p_begins c places place who cl interleaving rest (edge ∷ edges) path is e =
     let replies = first_reply (who, cl) rest interleaving (staged actor.P edges) (actor.P, edge) e is in
     let first = answered_first c actor.P places.p place edge edges path in
-    subst (λ (f : Actor × Class). WayBegins c actor.P places place f.0 f.1 interleaving rest) (sym replies.0) (record {
+    subst (λ (f : Actor × Class). InterleavingBegins c actor.P places place f.0 f.1 interleaving rest) (sym replies.0) (record {
       t = edge.0;
       others = moved places actor.P first.0;
       more = staged actor.P edges;
@@ -181,7 +181,7 @@ p_begins c places place who cl interleaving rest (edge ∷ edges) path is e =
 
 pub interleaving_begins : (c : Code) (named : Actor) (places : Sections ℕ) (place : ℕ) (actor : Actor) (class : Class) (interleaving : List Stage)
     (rest : List (Actor × Class)) → LeadsFrom c places named place interleaving → (actor, class) ∷ rest ≡ replies_along interleaving
-    → WayBegins c named places place actor class interleaving rest
+    → InterleavingBegins c named places place actor class interleaving rest
 interleaving_begins c actor.P places place who cl interleaving rest (edges, path, is) e = p_begins c places place who cl interleaving rest edges path is e
 interleaving_begins c actor.A places place who cl interleaving rest (other, both) e =
     let begins = both_begin c actor.A refl places place other who cl interleaving rest both e in

@@ -9,25 +9,33 @@ use Rattle.mc_sound.specs.declared.refusal_kind.RefusalKind.TheVariants as kind
 
 -- ---- kinds, as they are shown
 
-abbrev pub number_and_name : RefusalKind → ℕ × List ℕ
-number_and_name kind.BadTarget = (1, codes "BadTarget")
-number_and_name kind.BadIndex = (2, codes "BadIndex")
-number_and_name kind.NoHalt = (3, codes "NoHalt")
-number_and_name kind.NotCleared = (4, codes "NotCleared")
-number_and_name kind.Unbound = (5, codes "Unbound")
-number_and_name kind.WrongKind = (6, codes "WrongKind")
-number_and_name kind.NothingToBind = (7, codes "NothingToBind")
-number_and_name kind.FlagMayBeClear = (8, codes "FlagMayBeClear")
-number_and_name kind.FlagMayBeSet = (9, codes "FlagMayBeSet")
-number_and_name kind.TooManyRequests = (10, codes "TooManyRequests")
-number_and_name kind.TooManyBytes = (11, codes "TooManyBytes")
-number_and_name kind.OutOfMemory = (12, codes "OutOfMemory")
-
 abbrev pub kind_number : RefusalKind → ℕ
-kind_number found = (number_and_name found).0
+kind_number kind.BadTarget = 1
+kind_number kind.BadIndex = 2
+kind_number kind.NoHalt = 3
+kind_number kind.NotCleared = 4
+kind_number kind.Unbound = 5
+kind_number kind.WrongKind = 6
+kind_number kind.NothingToBind = 7
+kind_number kind.FlagMayBeClear = 8
+kind_number kind.FlagMayBeSet = 9
+kind_number kind.TooManyRequests = 10
+kind_number kind.TooManyBytes = 11
+kind_number kind.OutOfMemory = 12
 
 abbrev pub kind_name : RefusalKind → List ℕ
-kind_name found = (number_and_name found).1
+kind_name kind.BadTarget = codes "BadTarget"
+kind_name kind.BadIndex = codes "BadIndex"
+kind_name kind.NoHalt = codes "NoHalt"
+kind_name kind.NotCleared = codes "NotCleared"
+kind_name kind.Unbound = codes "Unbound"
+kind_name kind.WrongKind = codes "WrongKind"
+kind_name kind.NothingToBind = codes "NothingToBind"
+kind_name kind.FlagMayBeClear = codes "FlagMayBeClear"
+kind_name kind.FlagMayBeSet = codes "FlagMayBeSet"
+kind_name kind.TooManyRequests = codes "TooManyRequests"
+kind_name kind.TooManyBytes = codes "TooManyBytes"
+kind_name kind.OutOfMemory = codes "OutOfMemory"
 
 -- ---- the least fault
 
