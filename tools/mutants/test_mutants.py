@@ -62,17 +62,17 @@ class Runner(unittest.TestCase):
         self.assertEqual(failed.keys(), WHY.keys(), said)
         for name, why in WHY.items():
             self.assertEqual(failed[name][: len(why)], why)
-        self.assertEqual(last, f"5 passed, {len(WHY)} failed")
+        self.assertEqual(last, f"6 passed, {len(WHY)} failed")
         self.assertEqual(self.kept.read_text(encoding="utf-8"), "")
 
     def test_kept_outcomes(self):
         """If all were killed, that is kept, and then only those are tried that always are or are
         drawn. A contract that lets a mutant through has another sum."""
         self.write(KILLED + NONE)
-        self.assertEqual(self.run_it("--keep")[1], "5 passed, 0 failed")
+        self.assertEqual(self.run_it("--keep")[1], "6 passed, 0 failed")
         _, last, said = self.run_it()
-        tried = int(re.search(r"small: (\d) of 5 tried", said)[1])
-        self.assertEqual((last, 3 <= tried < 5), ("5 passed, 0 failed", True), said)
+        tried = int(re.search(r"small: (\d) of 6 tried", said)[1])
+        self.assertEqual((last, 3 <= tried < 6), ("6 passed, 0 failed", True), said)
         library = self.root / "crates/small/src/lib.rt"
         weak = FILES["crates/small/src/lib.rt"].replace("third { c ≤", "third { 0 ≤")
         library.write_text(weak, encoding="utf-8")

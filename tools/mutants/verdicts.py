@@ -13,6 +13,7 @@ PROOF_ERROR = re.compile(r"(?:\./)?proofs/(\S+)/(\w+)\.antt:\d+:\d+: error: (.*)
 LAST_LINE = re.compile(r"(?m)^only=\d+ (?:proved|holes)=\d+$")
 WRITTEN = re.compile(r"(?m)^pub (\S+) :")
 NOT_PROVED = "`search` did not prove "
+NOT_COVERED = "the borrow checker does not cover this function"
 
 
 class Answer:
@@ -52,6 +53,11 @@ class Answer:
                 if errors:
                     of_proof = of_proof or (PROOF, f"{name}: {errors[0][1]}")
         return of_proof
+
+    def not_covered(self, function):
+        """The part of the function for which the check looks for no goals, since the mutant makes
+        of it what the borrow checker doesn't cover; None if there is no such part."""
+        return next((it for it in self.parts_of(function) if NOT_COVERED in self.words[it]), None)
 
     def parts_of(self, function):
         """The functions of the answer that are this one, or a closure in it: the path of that has
