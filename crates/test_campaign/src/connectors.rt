@@ -1,8 +1,6 @@
 //! What connects the jobs of these tests.
 
-use crate::signal::Signal;
 use crate::store_stream::StoreStream;
-use crate::waiting_stream::WaitingStream;
 use mc_campaign::Connector;
 use mc_lane::Wire;
 use mc_protocol::{Actor, Sections};
@@ -10,6 +8,7 @@ use mc_server::Shared;
 use std::alloc::Global;
 use std::sync::Wait;
 use std::sync::atomic::{AtomicU64, Ordering};
+use test_support::{Signal, WaitingStream};
 
 /// Connects to one store, and counts the connections.
 #[derive(Drop)]

@@ -16,15 +16,11 @@ mod named_tests;
 #[cfg(test)]
 mod report_tests;
 #[cfg(test)]
-mod signal;
-#[cfg(test)]
 mod store_runs;
 #[cfg(test)]
 mod store_stream;
 #[cfg(test)]
 mod texts;
-#[cfg(test)]
-mod waiting_stream;
 #[cfg(test)]
 mod watching;
 #[cfg(test)]

@@ -5,11 +5,9 @@ ghost use Rattle.mc_run.specs.Running.{AreNew, IsNew};
 
 use crate::counter::{checked, counter};
 use crate::lanes::{NEVER, Served, endings, lanes, run, stream};
-use crate::signal::Signal;
-use crate::waiting_stream::WaitingStream;
 use Ending::{Done, Failed, NotBegun};
 use mc_core::{Ending, Event, World};
-use mc_lane::Lane;
+use mc_lane::{Lane, MemoryStream};
 use mc_protocol::{Actor, Fault, OutOfMemory, Reply};
 use mc_run::{Gate, Lanes};
 use mc_sound::Checked;
@@ -18,6 +16,7 @@ use std::sync::Wait;
 use std::sync::atomic::{AtomicU64, Ordering};
 use std::test::Fail;
 use std::thread::Threads;
+use test_support::{Signal, WaitingStream};
 
 /// P deletes, stores and reads, and each branch adds 1 three times.
 const THREE_CALLS: &[u8] = b"script 1\nkeys a\nbudget P 3 33\nbudget A 3 30\nbudget B 3 30\n\
@@ -275,7 +274,7 @@ fn fails_before(world: &World) -> bool {
 fn waiting_lanes<'s>(
     alloc: Global,
     gate: &'s HoldsA,
-) -> Result<Lanes<WaitingStream<'s>>, OutOfMemory>
+) -> Result<Lanes<WaitingStream<'s, MemoryStream>>, OutOfMemory>
     ensures { IfOk result AreNew }
 {
     Ok(Lanes {
@@ -291,7 +290,7 @@ fn lane<'s>(
     served: Served,
     until: &'s Signal,
     gate: &'s HoldsA,
-) -> Result<Lane<WaitingStream<'s>>, OutOfMemory>
+) -> Result<Lane<WaitingStream<'s, MemoryStream>>, OutOfMemory>
     ensures { IfOk result IsNew }
 {
     let stream = WaitingStream {

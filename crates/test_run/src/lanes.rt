@@ -5,7 +5,6 @@ ghost use Rattle.mc_core.specs.Held.{IsHeldBy};
 ghost use Rattle.mc_lane.specs.{MemoryStreams.state_of, Streams.CanFail};
 ghost use Rattle.mc_run.specs.Running.{AreNew, IsNew};
 
-use crate::signal::Signal;
 use core::thread::Stack;
 use mc_core::Ending;
 use mc_lane::{Lane, MemoryStream, Stream};
@@ -15,6 +14,7 @@ use mc_sound::Checked;
 use std::alloc::{AllocError, Global};
 use std::sync::Wait;
 use std::thread::Threads;
+use test_support::Signal;
 
 /// What a server answers over one lane, in pieces, and the call of its stream that fails, where reads and writes are counted
 /// together from 1.

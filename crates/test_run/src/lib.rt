@@ -29,8 +29,6 @@ mod memory;
 #[cfg(test)]
 mod run_tests;
 #[cfg(test)]
-mod signal;
-#[cfg(test)]
 mod thread_tests;
 #[cfg(test)]
 mod threadless_tests;
@@ -38,5 +36,3 @@ mod threadless_tests;
 mod trial_tests;
 #[cfg(test)]
 mod verdict;
-#[cfg(test)]
-mod waiting_stream;

@@ -5,10 +5,8 @@ ghost use Rattle.mc_run.specs.Running.{AreNew, IsNew};
 
 use crate::counter::counter;
 use crate::lanes::{NEVER, Served, lanes, run, stream};
-use crate::signal::Signal;
-use crate::waiting_stream::WaitingStream;
 use mc_core::{Ending, Event, World};
-use mc_lane::Lane;
+use mc_lane::{Lane, MemoryStream};
 use mc_protocol::{Actor, OutOfMemory, Reply};
 use mc_run::{FreeGate, Gate, Lanes};
 use mc_sound::Checked;
@@ -16,6 +14,7 @@ use std::alloc::Global;
 use std::sync::Wait;
 use std::test::Fail;
 use std::thread::Threads;
+use test_support::{Signal, WaitingStream};
 
 /// What the server answers to P, and the replies to an increment that is the first or the second.
 static TO_PREFIX: Served = (&[b"NOT_FOUND\r\n", b"STORED\r\n"], NEVER);
@@ -209,7 +208,7 @@ fn waiting_lanes<'s>(
     alloc: Global,
     signals: &'s Signals,
     until: &'s Signal,
-) -> Result<Lanes<WaitingStream<'s>>, OutOfMemory>
+) -> Result<Lanes<WaitingStream<'s, MemoryStream>>, OutOfMemory>
     ensures { IfOk result AreNew }
 {
     let (to_p, to_a, to_b) = (&signals.p_written, &signals.a_written, &signals.b_written);
@@ -227,7 +226,7 @@ fn lane<'s>(
     written: &'s Signal,
     until: &'s Signal,
     signals: &'s Signals,
-) -> Result<Lane<WaitingStream<'s>>, OutOfMemory>
+) -> Result<Lane<WaitingStream<'s, MemoryStream>>, OutOfMemory>
     ensures { IfOk result IsNew }
 {
     let stream = WaitingStream {

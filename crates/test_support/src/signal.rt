@@ -8,30 +8,30 @@ const TURNS: u64 = 1_000_000;
 
 /// Something that happens in one thread, and for which others wait.
 #[derive(Drop)]
-pub(crate) struct Signal {
+pub struct Signal {
     raised: AtomicU64,
 }
 
 impl Signal {
     /// One that hasn't happened.
-    pub(crate) fn new() -> Signal {
+    pub fn new() -> Signal {
         Signal {
             raised: AtomicU64::new(0),
         }
     }
 
     /// It has happened.
-    pub(crate) fn raise(&self) {
+    pub fn raise(&self) {
         self.raised.store(1, Ordering::SeqCst);
     }
 
     /// Whether it has happened.
-    pub(crate) fn is_raised(&self) -> bool {
+    pub fn is_raised(&self) -> bool {
         self.raised.load(Ordering::SeqCst) == 1
     }
 
     /// Waits until it has happened, but no longer than the limit of turns; `missed` happens where it hasn't.
-    pub(crate) fn wait(&self, missed: &Signal) {
+    pub fn wait(&self, missed: &Signal) {
         'turns: for _ in 0..TURNS {
             if self.is_raised() {
                 return;
