@@ -1,7 +1,6 @@
 //! A run of code against a server, and what is written of it.
 ghost use Rattle.std.specs.Arc.{arc_value};
 ghost use Rattle.std.specs.Prelude.{◌≡◌, IfOk};
-ghost use Rattle.mc_code.specs.Code.{Code};
 ghost use Rattle.mc_run.specs.Running.{AreNew};
 ghost use Rattle.mc_trial.specs.Judged.{IsJudged};
 ghost use Rattle.mc_command.specs.RunAnswers as answers;
@@ -80,7 +79,7 @@ pub fn play_code<R: Threads + Wait + Clock + Sync, N: Network>(
         Ok(connections) => {
             let lanes = new_lanes(alloc, connections);
             let judged = play_alone(rt, alloc, target, checked, lanes);
-            let ran = end_run(rt, alloc, target, judged)?;
+            let ran = end_run(rt, alloc, target, checked, judged)?;
             Ok((ran.played, ran.remarks))
         }
         Err(Unconnected { section, error }) => Ok(no_connection(section, error)),
@@ -117,7 +116,7 @@ pub fn play_connections<R: Threads + Wait + Clock + Sync, C: Connection>(
         }
         None => play_alone(rt, alloc, target, checked, lanes),
     };
-    end_run(rt, alloc, target, judged)
+    end_run(rt, alloc, target, checked, judged)
 }
 
 // Runs the code over the lanes, with a thread of its own for a branch.
@@ -145,15 +144,16 @@ fn play_alone<R: Threads + Wait + Clock + Sync, S: Stream + Send>(
     )
 }
 
-// What came of a run that was judged, or why there is none. Its lanes are closed.
+// What came of a run of the code that was judged, or why there is none. Its lanes are closed.
 fn end_run<R: Clock, C: Connection>(
     rt: &R,
     alloc: Global,
     target: &RunArgs<'_>,
+    checked: &Checked,
     judged: Result<Judged<Wire<Socket<C>>>, RunError>,
 ) -> Result<Ran<C>, AllocError>
-    ensures { (code : Code) → IfOk judged (λ j. IsJudged code j.run.world j.run.lanes j.history j.verdict)
-        → IfOk result (λ ran. answers.IsRightFor target.now.how.why code ran.played) }
+    requires { IfOk judged (λ j. IsJudged checked.now.code j.run.world j.run.lanes j.history j.verdict) }
+    ensures { IfOk result (λ ran. answers.IsRightFor target.now.how.why checked.now.code ran.played) }
 {
     let judged = match judged {
         Ok(judged) => judged,

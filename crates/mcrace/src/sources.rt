@@ -2,4 +2,4 @@
 
 /// The SHA-256 of all sources, definitions and proofs but of this file.
 pub const SOURCES: &[u8] =
-    b"sources a89117e094f30ab7e3f78cf5dbbb60d15f9aff3f09fd50aaa3a8ff28314d408a\n";
+    b"sources 1cc4e2795c485a13ae411d1c3fba09e829e6eddf5c11dc21620baaa276d33eac\n";
