@@ -3,7 +3,7 @@
 use crate::beside::{Beside, tell_news};
 use crate::book::{Book, State};
 use crate::clocked::{ClockedNetwork, Slowest};
-use crate::desk::{DeskOf, serve_desk};
+use crate::desk::serve_desk;
 use crate::finding::keep_reports;
 use crate::folder::{DiskFolder, Folder};
 use crate::generated::Generated;
@@ -96,7 +96,19 @@ where
     let folder = DiskFolder::new(rt, alloc, args.out);
     let mut report = Report::new(alloc, output, args.run.json, folder, book);
     match reached {
-        Ok(true) => test_reached(alloc, target, columns, &mut report, second, scope),
+        Ok(true) => {
+            let network = TcpNetwork::new(rt, servers_of(&target));
+            let mut network = ClockedNetwork::new(rt, network, second.slowest);
+            run_test(
+                alloc,
+                target,
+                &mut network,
+                columns,
+                &mut report,
+                second,
+                scope,
+            )
+        }
         Ok(false) => end_untested(&mut report, Ok(())),
         Err(error) => end_untested(&mut report, Err(error)),
     }
@@ -212,42 +224,11 @@ fn generated_of(book: &Book<'_>) -> Generated {
     Generated::new(book.seed, book.selection.only.is_none())
 }
 
-// Tests a server that can be reached.
-fn test_reached<'s, E, R, O: Sink, F: Folder>(
-    alloc: Global,
-    target: RunArgs<'s>,
-    columns: Option<usize>,
-    report: &mut Report<'_, O, F>,
-    second: &Second<'s, R>,
-    scope: &Scope<'s, E>,
-) -> u8
-where
-    R: Net<Listener = TcpListener, Stream = TcpStream> + Threads + Wait + Clock + Sync + Eprint,
-{
-    let rt = second.rt;
-    let network = TcpNetwork::new(rt, servers_of(&target));
-    let mut network = ClockedNetwork::new(rt, network, second.slowest);
-    match serve_desk(rt, alloc, scope) {
-        Ok(desk) => run_test(
-            alloc,
-            target,
-            &mut network,
-            desk,
-            columns,
-            report,
-            second,
-            scope,
-        ),
-        Err(error) => end_untested(report, Err(error)),
-    }
-}
-
-// The same over these connections, and over this desk.
+// Tests a server that can be reached, over these connections and a desk.
 fn run_test<'s, E, R, N: Network + Clients, O: Sink, F: Folder>(
     alloc: Global,
     target: RunArgs<'_>,
     network: &mut N,
-    desk: Option<DeskOf<N>>,
     columns: Option<usize>,
     report: &mut Report<'_, O, F>,
     second: &Second<'s, R>,
@@ -255,10 +236,15 @@ fn run_test<'s, E, R, N: Network + Clients, O: Sink, F: Folder>(
 ) -> u8
 where
     R: Net<Listener = TcpListener, Stream = TcpStream> + Threads + Wait + Clock + Sync + Eprint,
+    <N as Network>::Connection: 's,
 {
     let (rt, slowest) = (second.rt, second.slowest);
     let Ok(begun) = Instant::now(rt) else {
         return end_untested(report, Ok(()));
+    };
+    let desk = match serve_desk(rt, alloc, scope) {
+        Ok(desk) => desk,
+        Err(error) => return end_untested(report, Err(error)),
     };
     let time = report.book.time;
     let mut player = Player::new(

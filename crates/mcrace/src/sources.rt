@@ -2,4 +2,4 @@
 
 /// The SHA-256 of all sources, definitions and proofs but of this file.
 pub const SOURCES: &[u8] =
-    b"sources 1cc4e2795c485a13ae411d1c3fba09e829e6eddf5c11dc21620baaa276d33eac\n";
+    b"sources be264d1869ce8453cf822b74839085965fa38f279266fb591391a03a3cd00563\n";
