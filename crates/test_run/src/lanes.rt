@@ -76,12 +76,12 @@ pub(crate) fn run_meeting<S: Stream + Send, G: Gate, R: Threads + Wait + Sync>(
     requires { AreNew lanes }
     ensures { IfOk result (λ run. IsHeldBy checked.now.code run.world) }
 {
-    with_memory(
-        match run_lanes_with(rt, alloc, checked, lanes, gate, Stack::new(), meet) {
-            Ok((run, _)) => Ok(run),
-            Err(error) => Err(error),
-        },
-    )
+    let found = run_lanes_with(rt, alloc, checked, lanes, gate, Stack::new(), meet);
+    if matches!(found, Err(RunError::NoThread)) {
+        return Err(RunError::OutOfMemory);
+    }
+    let (run, _) = found?;
+    with_memory(Ok(run))
 }
 
 /// Runs code over lanes that are served so. A run consumes its lanes: if it finds no memory, it is made once more over new ones.
