@@ -162,9 +162,9 @@ class Races(ScriptTest, StressTest):
     @three_times
     def test_keep_going(self):
         port = self.enter(servers.serving("--racy")).port
-        answer = stressed(port, "--mix", "counters", "--keep-going", "--rounds", "50")
-        self.assertRegex(answer.text, r"\Around \d+ of 50\nunexplained\nkey k")
-        self.assertRegex(answer.text, r"\nend\nrounds 50 explained \d+ unexplained [1-9]\d* ")
+        answer = stressed(port, "--mix", "counters", "--keep-going", "--rounds", "300")
+        self.assertRegex(answer.text, r"\Around \d+ of 300\nunexplained\nkey k")
+        self.assertRegex(answer.text, r"\nend\nrounds 300 explained \d+ unexplained [1-9]\d* ")
         self.assertEqual(answer.status, 1)
 
     @three_times

@@ -123,9 +123,10 @@ class Right(ScriptTest):
         seed = "1" * (82 - len(short))
         self.assertEqual(head(seed), short.replace(" 1, 1.0 s", f" {seed},\n  1.0 s"))
 
+    @three_times
     def test_left_out(self):
         port = self.enter(servers.serving()).port
-        found = tested(port, "--for", "1s", "--skip", "lost-increment,torn-gets")
+        found = tested(port, "--for", "2s", "--skip", "lost-increment,torn-gets")
         self.assert_nothing(found)
         self.assertIn(f"races tried: {len(BUGS) - 2} of {len(BUGS) - 2},", found.text)
 
