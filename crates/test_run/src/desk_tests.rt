@@ -39,7 +39,7 @@ fn plays_over_a_desk_that_nobody_looks_at(rt: HostRuntime) -> Result<(), Fail> {
     Ok(())
 }
 
-/// The first of so many ways to meet in which a run over a desk, or one whose P fails after it, comes to something odd.
+/// The first of this many ways to meet in which a run over a desk, or the next one, whose P fails, ends in another way than it should.
 fn first_odd<R: Threads + Wait + Sync>(
     rt: &R,
     alloc: Global,
