@@ -3,8 +3,8 @@
 //! Below it stand `mc_core`, whose worlds are folds of events, `mc_lane`, whose lanes carry calls and record them, and `mc_recorded`,
 //! which compares what is noted of a lane with its record. A run gets its events from three lanes, the branches on two threads, which
 //! note them in one book. The crate above uses the contract of `run_lanes_with`, and of `run_beside`: what was noted is what the lanes
-//! recorded, which is what `agrees` tests (`specs/Agreement.antt`, and of one section `specs/Recorded.antt` of `mc_recorded`), and the
-//! code's own sections came to it (`mc_core`).
+//! recorded, which is what `agrees` tests (`specs/Agreement.antt`, and of one section `specs/Recorded.antt` of `mc_recorded`), and it
+//! is what the code's sections may do (`mc_core`).
 #![tactic(auto)]
 
 mod agreement;

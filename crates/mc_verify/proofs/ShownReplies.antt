@@ -17,7 +17,7 @@ pub replies_one_more : (interleaving : List Stage) (actor : Actor) (t : Template
     → replies_along (interleaving ++ (actor, (t, class)) ∷ []) ≡ replies_along interleaving ++ (actor, class) ∷ []
 replies_one_more interleaving actor t class = map-append (λ (stage : Stage). (stage.0, stage.1.1)) interleaving ((actor, (t, class)) ∷ [])
 
--- one more edge of the section, behind an interleaving
+-- an interleaving whose last stages are the section's, with one more edge
 pub front_one_more : (front : List Stage) (actor : Actor) (edges : List Edge) (t : Template) (class : Class)
     → replies_along (front ++ staged actor (edges ++ (t, class) ∷ [])) ≡ replies_along (front ++ staged actor edges) ++ (actor, class) ∷ []
 front_one_more front actor edges t class =

@@ -2,11 +2,11 @@
 pub mod Refusals
 pub mod Shown
 -- What private contracts cite.
-pub mod FlowTraces
+pub mod FlowPaths
 pub mod FaultGroups
 pub mod Lowest
 pub mod VariableFaults
-pub mod Traces
-pub mod CostTraces
-pub mod KindTraces
-pub mod FlagTraces
+pub mod PrefixReplies
+pub mod CostPaths
+pub mod KindPaths
+pub mod FlagPaths

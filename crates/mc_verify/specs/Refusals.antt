@@ -1,4 +1,4 @@
--- Refusals: why code isn't sound, and the run that shows it.
+-- Refusals: why code isn't sound, and the counterexample that shows it.
 use Rattle.std.specs.Prelude.{◌≡◌, ◌⊎◌, ℕ, List, []}
 use Rattle.mc_protocol.specs.{declared.actor.Actor.Actor, declared.reply.Class.Class}
 use Rattle.mc_protocol.specs.declared.actor.Actor.TheVariants as actor
@@ -18,7 +18,7 @@ pub record Refusal : Type 0 where
 abbrev pub fault_of : Refusal → CodeFault
 fault_of refusal = record { kind = refusal.kind; actor = refusal.actor; place = refusal.place }
 
--- the replies are those of a run that shows the fault; of a fault of structure, and where memory ran out, there are none
+-- the replies are those of a counterexample; of a fault of structure, and where memory ran out, there are none
 abbrev pub AreRightFor : Code → RefusalKind → Actor → ℕ → List (Actor × Class) → Type 0
 AreRightFor c kind.BadTarget actor place shown = shown ≡ []
 AreRightFor c kind.BadIndex actor place shown = shown ≡ []
@@ -32,7 +32,7 @@ pub record IsRefusalFrom (c : Code) (number : ℕ) (refusal : Refusal) : Type 0 
   pub least : IsLeastFrom c number (fault_of refusal)
   pub shown : AreRightFor c refusal.kind refusal.actor refusal.place refusal.shown
 
--- the refusal is one for the code: it names the code's least fault, and shows it by a run, if it isn't one of structure
+-- the refusal is one for the code: it names the code's least fault, and has a counterexample, if it isn't one of structure
 abbrev pub IsRightRefusal : Code → Refusal → Type 0
 IsRightRefusal c refusal = IsRefusalFrom c 1 refusal
 

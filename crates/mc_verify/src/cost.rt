@@ -13,7 +13,7 @@ ghost use Rattle.mc_sound.specs.LeastFaults as least_faults;
 
 use crate::Refusal;
 use crate::budgets::lowest_places;
-use crate::cost_trace::excess_run;
+use crate::excess_counterexample::excess_counterexample;
 use crate::lowest::check_kind;
 use mc_code::Code;
 use mc_flow::CostTables;
@@ -22,7 +22,7 @@ use mc_sound::{CodeFault, Cost, Measure, RefusalKind};
 use std::alloc::Global;
 
 /// What each section costs at most. The inner error is the least fault of the budgets, a section that may send more
-/// requests, or more bytes, than its budget allows; with a run that shows it.
+/// requests, or more bytes, than its budget allows; with a counterexample.
 pub(crate) fn costs(
     alloc: Global,
     code: &Code,
@@ -39,14 +39,14 @@ pub(crate) fn costs(
     match greatest_costs(code, &tables) {
         Ok(maxima) => Ok(Ok(maxima)),
         Err(fault) => {
-            let shown = budget_run(alloc, code, &tables, fault)?;
+            let shown = budget_counterexample(alloc, code, &tables, fault)?;
             Ok(Err(Refusal::new(fault, shown)))
         }
     }
 }
 
-/// The replies of a run that shows the fault, by the tables.
-fn budget_run(
+/// The replies of a counterexample, by the tables.
+fn budget_counterexample(
     alloc: Global,
     code: &Code,
     tables: &CostTables,
@@ -62,9 +62,9 @@ fn budget_run(
     let place = usize::from(fault.place);
     match fault.kind {
         RefusalKind::TooManyRequests => {
-            excess_run(alloc, code, tables, Measure::Requests, fault.actor, place)
+            excess_counterexample(alloc, code, tables, Measure::Requests, fault.actor, place)
         }
-        _ => excess_run(alloc, code, tables, Measure::Bytes, fault.actor, place),
+        _ => excess_counterexample(alloc, code, tables, Measure::Bytes, fault.actor, place),
     }
 }
 

@@ -1,4 +1,4 @@
-//! What follows from the definition of what a run shows, whatever the code is.
+//! What follows from the definition of a counterexample, whatever the code is.
 ghost use Rattle.mc_verify.specs.Shown.{ShownIsFault};
 
 /// What a list of replies shows is a fault of the code.

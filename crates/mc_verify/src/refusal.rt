@@ -7,7 +7,7 @@ use mc_sound::{CodeFault, RefusalKind};
 use std::alloc::Global;
 use std::marker::Model;
 
-/// The fault for which code is refused, where it stands, and a run that shows it. Contracts see the vector as a list.
+/// The fault for which code is refused, where it stands, and a counterexample. Contracts see the vector as a list.
 #[derive(Debug, Drop)]
 pub struct Refusal {
     /// What is wrong.

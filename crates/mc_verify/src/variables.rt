@@ -13,7 +13,7 @@ ghost use Rattle.mc_verify.specs.VariableFaults as variables;
 use crate::Refusal;
 use crate::lowest::check_kind;
 use crate::section::instructions;
-use crate::variable_run::variable_run;
+use crate::variable_counterexample::variable_counterexample;
 use crate::wrong_number::{binds_nothing, sends_wrong_number};
 use mc_code::{Code, Instr};
 use mc_flow::{KindTables, all_kind_tables, declared_template};
@@ -22,7 +22,7 @@ use mc_sound::{CodeFault, RefusalKind};
 use std::alloc::Global;
 
 /// The least fault of variables: a request's variable that may have no number, or one of another kind than the request
-/// takes, or a bind where no number may have been shown; with a run that shows it. The error is that memory ran out.
+/// takes, or a bind where no number may have been shown; with a counterexample. The error is that memory ran out.
 pub(crate) fn variable_fault(alloc: Global, code: &Code) -> Result<Option<Refusal>, OutOfMemory>
     requires { (actor : Section) → faults.IsStructured code.now actor }
     ensures found { IfOk result (λ found. IfSome found (refusals.IsRefusalFrom code.now 5)) }
@@ -32,7 +32,7 @@ pub(crate) fn variable_fault(alloc: Global, code: &Code) -> Result<Option<Refusa
     match check_variables(code, &tables) {
         Ok(()) => Ok(None),
         Err(fault) => {
-            let shown = variable_run(alloc, code, &tables, fault)?;
+            let shown = variable_counterexample(alloc, code, &tables, fault)?;
             Ok(Some(Refusal::new(fault, shown)))
         }
     }

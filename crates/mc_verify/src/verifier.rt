@@ -18,7 +18,7 @@ use std::alloc::Global;
 ///
 /// # Errors
 ///
-/// The least fault of code that isn't sound, by kind, section and place in this order, with a run that shows it; or that
+/// The least fault of code that isn't sound, by kind, section and place in this order, with a counterexample; or that
 /// memory ran out. The code is handed back.
 pub fn verify(alloc: Global, code: Code) -> Result<Checked, (Refusal, Code)>
     ensures accepted { IfOk result (λ checked. checked.code ≡ code) }

@@ -1,7 +1,7 @@
 use Rattle.std.proofs.Common.{[], sym, subst}
 use Rattle.mc_protocol.specs.declared.actor.Actor.TheVariants as actor
 use Rattle.mc_code.specs.Paths.{stays}
-use Rattle.mc_verify.specs.Traces.{AreInP}
+use Rattle.mc_verify.specs.PrefixReplies.{AreInP}
 use Rattle.mc_sound.proofs.Structured.{structured_some}
 use Rattle.mc_verify.proofs.replies.complete_path.Goals as goal
 

@@ -1,7 +1,7 @@
 use Rattle.std.proofs.Common.{◌<◌, ◌-◌, length}
 use Rattle.mc_protocol.specs.declared.actor.Actor.TheVariants as actor
 use Rattle.mc_code.specs.Code.{instructions_in}
-use Rattle.mc_verify.specs.Traces.{AreInP}
+use Rattle.mc_verify.specs.PrefixReplies.{AreInP}
 use Rattle.mc_verify.proofs.replies.complete_path.Given as goal
 
 abbrev pub invariant-moves : goal.invariant-moves

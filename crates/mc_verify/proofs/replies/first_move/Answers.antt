@@ -1,7 +1,7 @@
 use Rattle.std.proofs.Common.{refl, ◌∙◌, arith}
 use Rattle.mc_protocol.specs.declared.actor.Actor.TheVariants as actor
 use Rattle.mc_code.specs.declared.instr.Instr.TheVariants as instr
-use Rattle.mc_verify.proofs.PrefixWalks.{p_slides, p_sends}
+use Rattle.mc_verify.proofs.PrefixPaths.{p_slides, p_sends}
 use Rattle.mc_verify.proofs.replies.first_move.Goals as goal
 
 pub overflow_add-result : goal.overflow_add-result
