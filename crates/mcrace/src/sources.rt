@@ -2,4 +2,4 @@
 
 /// The SHA-256 of all sources, definitions and proofs but of this file.
 pub const SOURCES: &[u8] =
-    b"sources 4e570ad5810d2f9cb92700492b69675b0a409af2d3e5b0cf3971160d5bf34ad8\n";
+    b"sources 369c0196f6c0e0cb72d4e79c80cdcb4ac170cb237c1d9720bfeb00d162f7773a\n";
