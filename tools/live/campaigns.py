@@ -9,8 +9,9 @@ from .program import SECONDS, LiveTest, run
 JOB = re.compile(r"\d+ (?:explained|unexplained|undecided)(?: [PAB] \w+)*|\d+ no connection [PAB]"
                  r"|\d+ not (?:run|made)")
 TOTALS = re.compile(r"jobs (\d+) explained (\d+) unexplained (\d+) other (\d+)")
-# The most jobs of a block, and of a report, if a campaign runs in blocks.
-MOST_IN_BLOCK = 64
+# How many workers there are by default, and how many jobs of each begin beyond those in the report;
+# and the most jobs of a report.
+WORKERS, AHEAD = 4, 4
 MOST_IN_REPORT = 10_000
 
 

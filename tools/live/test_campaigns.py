@@ -25,6 +25,7 @@ SURE = ("set", "add", "append", "incr", "decr", "gets", "delete")
 class RightServers(servers.ServedTest, CampaignTest):
     """All jobs are explained, but if a verdict may take no turn."""
 
+    @three_times
     def test_memcached(self):
         self.assert_right(self.enter(servers.memcached()).port, 300)
 
@@ -145,7 +146,8 @@ SLOW = 1
 class NoServers(CampaignTest):
     """A campaign gives up when 64 connects in a row failed."""
 
-    @rows([("all jobs", "--jobs 1000", 1000), ("in blocks", "--jobs 1000 --stop-after 1", 1000)])
+    @rows([("all jobs", "--jobs 1000", 1000),
+           ("until one is unexplained", "--jobs 1000 --stop-after 1", 1000)])
     def test_rest_of_the_jobs(self, options, jobs):
         """No other connect is tried: that of each job would take a second."""
         with servers.unanswering() as port, self.assert_takes(4, 12):

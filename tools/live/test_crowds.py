@@ -115,6 +115,7 @@ class Right(CrowdTest):
         self.assertRegex(found.text, r"\nno race found in ")
 
     @rows([("1", "1"), ("2", "2"), ("3", "3"), ("4", "4")])
+    @three_times
     def test_memcached(self, seed):
         port = self.enter(servers.memcached()).port
         found = test_suite.tested(port, "--for", "3s", "--seed", seed, "--skip", SKIPPED)

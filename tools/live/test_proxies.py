@@ -63,6 +63,7 @@ class Proxies(LiveTest):
 
     seconds = 40
 
+    @three_times
     def test_nutcracker(self):
         """Each branch has a nutcracker of its own before the server, and nothing is found."""
         port = self.enter(servers.memcached()).port

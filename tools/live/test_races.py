@@ -3,7 +3,7 @@
 import re
 
 from . import servers
-from .campaigns import MOST_IN_BLOCK, CampaignTest, campaign, steps_of
+from .campaigns import AHEAD, WORKERS, CampaignTest, campaign, steps_of
 from .program import judged, play, rows, run
 
 # How often a campaign is run until it finds a race that depends on how threads meet.
@@ -134,7 +134,7 @@ class SmallScripts(LosingEach):
 
 
 class FirstFindings(LosingEach):
-    """A campaign may end within a block after the first finding."""
+    """A campaign may end soon after the first finding."""
 
     seconds = 9
 
@@ -145,6 +145,6 @@ class FirstFindings(LosingEach):
         self.assertEqual(found.rest[:2], ["shrunk", "script 1"])
         self.assertEqual(found.rest.count("shrunk"), 1)
         first = int(found.unexplained[0])
-        self.assertEqual(len(found.jobs), (first // MOST_IN_BLOCK + 1) * MOST_IN_BLOCK)
+        self.assertEqual(len(found.jobs), first + WORKERS * AHEAD)
         self.assert_left(found, first)
         self.assert_reports(found.reports, 0)

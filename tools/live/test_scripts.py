@@ -9,7 +9,7 @@ import unittest
 from concurrent.futures import ThreadPoolExecutor
 
 from . import servers
-from .program import ROOT, rows, run
+from .program import ROOT, rows, run, three_times
 
 # A race or one of its scripts, and a bug that each of these finds.
 RACES = [
@@ -87,6 +87,7 @@ class ScriptTest(servers.LiveTest):
 class Found(ScriptTest):
     """Each is unexplained at the server with its bug."""
 
+    @three_times
     def check_found(self, script, bug):
         for window in LATE if bug == "stale-get" else WINDOWS:
             with self.faulty(bug, window) as (_, port):

@@ -102,6 +102,7 @@ class Right(ScriptTest):
     def test_serve(self):
         self.assert_nothing(tested(self.enter(servers.serving()).port, "--for", "4s"))
 
+    @three_times
     def test_memcached(self):
         port = self.enter(servers.memcached()).port
         found = tested(port, "--for", "4s", "--name", "ours", "--seed", "7")
@@ -146,15 +147,18 @@ class Naming(servers.Carrying):
 class AtOnce(LiveTest):
     """Each thread that plays scripts has a name of its own."""
 
-    seconds = 20
+    seconds = 60
 
     def names_on(self, processors):
-        proxy = self.enter(Naming(self.enter(servers.serving()).port))
-        with on_processors(processors):
-            found = tested(proxy.port, "--for", "2s")
-        self.assertEqual(found.status, 0, found.text)
-        self.assertRegex(found.text, r"generated scripts: [1-9]")
-        return len(proxy.names)
+        # A slow machine needs longer until it has played a generated script.
+        for period in ("2s", "8s", "30s"):
+            proxy = self.enter(Naming(self.enter(servers.serving()).port))
+            with on_processors(processors):
+                found = tested(proxy.port, "--for", period)
+            self.assertEqual(found.status, 0, found.text)
+            if re.search(r"generated scripts: [1-9]", found.text):
+                return len(proxy.names)
+        return self.fail(found.text)
 
     def test_one(self):
         self.assertEqual(self.names_on(1), 1)

@@ -4,9 +4,10 @@ use Rattle.std.specs.List.{starts_with}
 use Rattle.mc_script_text.specs.declared.fault.ScriptKind.TheVariants as script_kind
 use Rattle.mc_script.specs.Script.{Script}
 use Rattle.mc_script_text.specs.{FrontText.SpellsFront, ScriptText.SpellsScript}
-use Rattle.mc_code.specs.Layout.{IsExceeded, IsFirst, code_of}
-use Rattle.mc_code.specs.{declared.fault.AsmFault.AsmFault, Agreement.Agrees, Code.Code, Code.IsCode}
-use Rattle.mc_code.specs.declared.fault.AsmFault.TheVariants as asm_fault
+use Rattle.mc_assembler.specs.Layout.{IsExceeded, IsFirst, code_of}
+use Rattle.mc_code.specs.{Code.Code, Code.IsCode}
+use Rattle.mc_assembler.specs.{declared.fault.AsmFault.AsmFault, Agreement.Agrees}
+use Rattle.mc_assembler.specs.declared.fault.AsmFault.TheVariants as asm_fault
 use Rattle.mc_image.specs.declared.fault.ImageKind.TheVariants as image_kind
 use Rattle.mc_image.specs.Image.{IsImageOf}
 use Rattle.mc_hints.specs.{Refusals.load_refusal, Refusals.unsound_text, declared.refused.LoadFault.LoadFault}

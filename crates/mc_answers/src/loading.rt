@@ -7,7 +7,8 @@ ghost use Rattle.mc_answers.specs.Loading as loading;
 ghost use Rattle.mc_answers.specs.Refusing.{IfRefused};
 
 use crate::refusal::{Unanswered, refuse};
-use mc_code::{Code, assemble};
+use mc_assembler::assemble;
+use mc_code::Code;
 use mc_hints::{LoadFault, Refused};
 use mc_image::decode;
 use mc_protocol::fault_of_input;

@@ -1,5 +1,7 @@
+pub mod AllRan
 pub mod Closing
 pub mod Judged
 pub mod MoreJobs
-pub mod WrittenReport
+pub mod Runs
 pub mod ShortKeys
+pub mod ShownReport

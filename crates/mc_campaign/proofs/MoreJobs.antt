@@ -1,10 +1,10 @@
 -- One more job: its number after those before it, what it came to, and its line after theirs.
-use Rattle.std.proofs.Common.{◌≡◌, ℕ, ◌+◌, ◌<◌, List, [], ◌∷◌, ◌++◌, length, map, take, get_or, refl, sym, ap, subst, ◌∙◌}
-use Rattle.std.proofs.lemmas.List.{map-append, map-id, take_more, flat_map_more}
+use Rattle.std.proofs.Common.{◌≡◌, ℕ, ◌+◌, List, [], ◌∷◌, ◌++◌, map, refl, sym, ap, subst, ◌∙◌}
+use Rattle.std.proofs.lemmas.List.{map-append, map-id}
 use Rattle.std.proofs.{lemmas.List.Elements.All-push, lemmas.List.FromFn.map-range_with_len_more}
-use Rattle.std.specs.{Prelude.Option, List.All, List.flat_map, List.range_with_len, Option.option_copied}
+use Rattle.std.specs.{Prelude.Option, List.All, List.range_with_len}
 use Rattle.mc_protocol.specs.Lines.{Word}
-use Rattle.mc_campaign.specs.{Outcomes.IsJudgedWithin, Outcomes.IsOutcome, declared.campaign.Campaign.Campaign, declared.outcome.JobResult.JobResult}
+use Rattle.mc_campaign.specs.{Outcomes.IsJudgedWithin, Outcomes.IsOutcome, declared.outcome.JobResult.JobResult}
 
 range_more : (a n : ℕ) → range_with_len a (n + 1) ≡ range_with_len a n ++ (a + n) ∷ []
 range_more a n =
@@ -40,25 +40,3 @@ one_more_judged limit old new r is right before =
 -- the numbers of the jobs
 abbrev pub numbers : {S : Type 0} → List (JobResult S) → List ℕ
 numbers results = map (λ r. r.job) results
-
--- each result is right for the campaign
-abbrev pub AreRight : {S : Type 0} → Campaign → List (JobResult S) → Type 0
-AreRight c results = All (IsRight c.seed (option_copied c.name)) results
-
--- what is right of results for a campaign is so for the same campaign
-pub same_campaign : {S : Type 0} (a b : Campaign) (results : List (JobResult S)) → a ≡ b → AreRight a results → AreRight b results
-same_campaign a b results same right = subst (λ (c : Campaign). AreRight c results) same right
-
-pub same_limit : {S : Type 0} (a b : Campaign) (results : List (JobResult S)) → a ≡ b → AreJudgedWithin a.limit results
-    → AreJudgedWithin b.limit results
-same_limit a b results same right = subst (λ (c : Campaign). AreJudgedWithin c.limit results) same right
-
-pub one_more_line : {X : Type 0} (line : X → List ℕ) (front old new : List ℕ) (xs : List X) (i : ℕ) (x : X) → i < length xs
-    → x ≡ get_or xs i x → old ≡ front ++ flat_map line (take i xs) → new ≡ old ++ line x
-    → new ≡ front ++ flat_map line (take (i + 1) xs)
-one_more_line line front old new xs i x lt here before is =
-    is
-    ∙ (ap (λ ys. ys ++ line x) before
-    ∙ (flat_map_more line front (take i xs) x
-    ∙ (ap (λ y. front ++ flat_map line (take i xs ++ y ∷ [])) here
-    ∙ ap (λ ys. front ++ flat_map line ys) (sym (take_more xs i x lt)))))

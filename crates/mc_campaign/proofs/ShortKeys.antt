@@ -1,12 +1,12 @@
 -- Where a name leaves the keys of all jobs short, no job of a report was kept from running by a key that is too long.
-use Rattle.std.proofs.Common.{◌≡◌, ℕ, ◌+◌, ◌<◌, Some, None, List, length, get_or, Result, Ok, Err, IfOk, sym, ap, subst, ◌∙◌, arith}
+use Rattle.std.proofs.Common.{◌≡◌, ℕ, ◌+◌, ◌<◌, Some, None, List, length, get_or, sym, ap, subst, ◌∙◌, arith}
 use Rattle.std.proofs.{lemmas.List.get_or-map, lemmas.List.length-map, lemmas.List.FromFn.get_or-range_with_len, lemmas.List.FromFn.length-range_with_len}
 use Rattle.std.specs.{Prelude.Option, List.All, List.range_with_len}
 use Rattle.mc_protocol.specs.Lines.{Word}
 use Rattle.mc_settings.specs.JobKeys.{NameFits}
 use Rattle.mc_generate.specs.JobCodes.{HasLongKey}
 use Rattle.mc_campaign.specs.declared.outcome.JobOutcome.{JobOutcome}
-use Rattle.mc_campaign.specs.{Outcomes.HasShortKeys, Outcomes.IsOutcome, Reports.Reported, declared.outcome.JobResult.JobResult}
+use Rattle.mc_campaign.specs.{Outcomes.HasShortKeys, Outcomes.IsOutcome, declared.outcome.JobResult.JobResult}
 use Rattle.mc_campaign.proofs.MoreJobs.{IsRight, numbers}
 
 -- none of the jobs has a key that is too long under the name
@@ -35,10 +35,3 @@ short_keys {S} seed name first jobs results are right fits place d below long =
     let P : JobOutcome S → Type 0 = λ found. IsOutcome seed name one.job found in
     let named : HasLongKey name one.job = subst P long (right place d below) in
     none-long name first jobs place at.1 fits (subst (HasLongKey name) at.0 named)
-
--- the same of a report, if there is one
-pub short_report : {S E : Type 0} (seed : ℕ) (name : Option Word) (first jobs : ℕ) (r : Result (Reported S) E)
-    → IfOk r (λ report. numbers report.results ≡ range_with_len first jobs) → IfOk r (λ report. All (IsRight seed name) report.results)
-    → IfOk r (λ report. NameFits name first jobs → All (λ r. HasShortKeys r.outcome) report.results)
-short_report seed name first jobs (Ok report) are right = short_keys seed name first jobs report.results are right
-short_report seed name first jobs (Err e) are right = tt

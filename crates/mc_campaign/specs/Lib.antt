@@ -4,4 +4,6 @@ pub mod Outcomes
 pub mod Messages
 pub mod Reports
 pub mod ReportText
+pub mod ReportLines
 pub mod ReportStatus
+pub mod Runs

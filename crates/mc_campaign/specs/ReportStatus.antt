@@ -75,5 +75,8 @@ abbrev pub are_clean : {S : Type 0} → List (JobResult S) → Bool
 are_clean results = list_all (λ r. is_clean r.outcome) results
 
 -- 1 where a job speaks against the server, and else 0 where nothing was wrong with any of them, and 4 where something was
+abbrev pub status_by : Bool → Bool → ℕ
+status_by accuses clean = if accuses then 1 else (if clean then 0 else 4)
+
 abbrev pub status_of : {S : Type 0} → List (JobResult S) → ℕ
-status_of results = if one_accuses results then 1 else (if are_clean results then 0 else 4)
+status_of results = status_by (one_accuses results) (are_clean results)

@@ -68,13 +68,18 @@ is_same_standing standing.Other standing.Other = true
 abbrev pub count_of : {S : Type 0} → Standing → List (JobResult S) → ℕ
 count_of wanted results = count_by (λ r. is_same_standing wanted (standing_of r.outcome)) results
 
--- all jobs, those that are explained, those that are unexplained, and the others
+-- how many jobs there are, how many of them are explained, how many are unexplained, and how many are neither
+abbrev pub totals_by : ℕ → ℕ → ℕ → ℕ → List ℕ
+totals_by jobs explained unexplained other =
+    codes "jobs " ++ (decimal jobs
+    ++ (codes " explained " ++ (decimal explained
+    ++ (codes " unexplained " ++ (decimal unexplained
+    ++ (codes " other " ++ (decimal other ++ codes "\n")))))))
+
 abbrev pub totals_line : {S : Type 0} → List (JobResult S) → List ℕ
 totals_line results =
-    codes "jobs " ++ (decimal (length results)
-    ++ (codes " explained " ++ (decimal (count_of standing.Explained results)
-    ++ (codes " unexplained " ++ (decimal (count_of standing.Unexplained results)
-    ++ (codes " other " ++ (decimal (count_of standing.Other results) ++ codes "\n")))))))
+    totals_by (length results) (count_of standing.Explained results) (count_of standing.Unexplained results)
+    (count_of standing.Other results)
 
 -- ---- all of it
 
@@ -88,3 +93,10 @@ brief_job_line r = if is_clean r.outcome then [] else job_line r
 -- the same without the lines of jobs with which nothing was wrong; the totals count them
 abbrev pub brief_report_text : {S : Type 0} → List (JobResult S) → List ℕ
 brief_report_text results = flat_map brief_job_line results ++ totals_line results
+
+-- the line of a job in either of them
+abbrev pub line_by : {S : Type 0} → Bool → JobResult S → List ℕ
+line_by brief r = if brief then brief_job_line r else job_line r
+
+abbrev pub text_by : {S : Type 0} → Bool → List (JobResult S) → List ℕ
+text_by brief results = flat_map (line_by brief) results ++ totals_line results

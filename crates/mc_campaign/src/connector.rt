@@ -16,4 +16,9 @@ pub trait Connector<S: Stream>: Sync {
     /// Takes back the connections of a job that was judged, but for those that a fault ended, or on which more was received than
     /// the replies to its requests. Nothing of what it does with them is recorded. Where it isn't given, they are dropped.
     fn release(&self, _streams: Sections<Option<S>>) {}
+
+    /// Whether no further job is to begin.
+    fn is_over(&self) -> bool {
+        false
+    }
 }

@@ -24,6 +24,19 @@ pub fn report_status<S: Stream>(report: &Report<S>) -> u8
     }
 }
 
+/// What it exits with after a report of one job that came to this.
+pub fn job_status<S: Stream>(outcome: &JobOutcome<S>) -> u8
+    ensures { result ≡ spec.status_by (spec.accuses outcome.now) (spec.is_clean outcome.now) }
+{
+    if accuses(outcome) {
+        1
+    } else if is_clean(outcome) {
+        0
+    } else {
+        4
+    }
+}
+
 /// Whether one of the jobs speaks against the server.
 fn one_accuses<S: Stream>(results: &[JobResult<S>]) -> bool
     ensures { result ≡ spec.one_accuses results.now }

@@ -4,20 +4,15 @@ ghost use Rattle.std.specs.Prelude.{◌≡◌};
 ghost use Rattle.std.specs.Option.{option_copied};
 ghost use Rattle.mc_campaign.specs.Outcomes.{IsJudgedWithin, IsOutcome};
 
-use crate::job::run_job;
-use crate::{Campaign, Connector, JobOutcome};
+use crate::{Campaign, JobOutcome};
 use mc_lane::Stream;
-use mc_run::Gate;
 use mc_settings::Namespace;
-use std::alloc::Global;
 use std::marker::Model;
-use std::sync::Wait;
-use std::thread::Threads;
 
 /// What a job came to, with the seed, the limit of turns and the name of its campaign. Whoever receives it knows that the job may come
 /// to this. Contracts see the seed, the limit, the name, the job and the outcome.
 #[derive(Debug)]
-pub struct JobMessage<'a, S: Stream> {
+pub(crate) struct JobMessage<'a, S: Stream> {
     seed: u64,
     limit: u64,
     name: Option<&'a Namespace<'a>>,
@@ -52,27 +47,6 @@ impl<'a, S: Stream> Model for JobMessage<'a, S> {
 }
 
 impl<'a, S: Stream + Send> JobMessage<'a, S> {
-    /// Makes the code of a job of the campaign, connects its sections, runs it, judges its history, and closes the lanes. It waits
-    /// for the streams, for the gate and for the threads of the branches.
-    pub fn run<C: Connector<S>, G: Gate, R: Threads + Wait + Sync>(
-        rt: &R,
-        alloc: Global,
-        campaign: Campaign<'a>,
-        connector: &C,
-        gate: &G,
-        job: u64,
-    ) -> Self
-        ensures seed { result.seed ≡ campaign.entry.seed }
-        ensures limit { result.limit ≡ campaign.entry.limit }
-        ensures name { result.name ≡ option_copied campaign.entry.name }
-        ensures job { result.job ≡ job }
-        ensures outcome { IsOutcome campaign.entry.seed (option_copied campaign.entry.name) job result.outcome }
-        ensures turns { IsJudgedWithin campaign.entry.limit result.outcome }
-    {
-        let outcome = run_job(rt, alloc, campaign, connector, gate, job);
-        JobMessage::of(campaign, job, outcome)
-    }
-
     /// The message that a job of the campaign came to this.
     pub(crate) fn of(campaign: Campaign<'a>, job: u64, came_to: JobOutcome<S>) -> Self
         requires right { IsOutcome campaign.seed (option_copied campaign.name) job came_to }
@@ -93,7 +67,7 @@ impl<'a, S: Stream + Send> JobMessage<'a, S> {
     }
 
     /// The seed of its campaign.
-    pub fn seed(&self) -> u64
+    pub(crate) fn seed(&self) -> u64
         ensures { result ≡ self.now.seed }
     {
         self.seed
@@ -107,14 +81,14 @@ impl<'a, S: Stream + Send> JobMessage<'a, S> {
     }
 
     /// The name of its campaign, if it has one.
-    pub fn name(&self) -> Option<&'a Namespace<'a>>
+    pub(crate) fn name(&self) -> Option<&'a Namespace<'a>>
         ensures { option_copied result ≡ self.now.name }
     {
         self.name
     }
 
     /// The number of the job.
-    pub fn job(&self) -> u64
+    pub(crate) fn job(&self) -> u64
         ensures { result ≡ self.now.job }
     {
         self.job
@@ -128,7 +102,7 @@ impl<'a, S: Stream + Send> JobMessage<'a, S> {
     }
 
     /// What the job came to, without the message.
-    pub fn into_outcome(self) -> JobOutcome<S>
+    pub(crate) fn into_outcome(self) -> JobOutcome<S>
         ensures same { result ≡ self.entry.outcome }
         ensures right { IsOutcome self.entry.seed self.entry.name self.entry.job result }
         ensures turns { IsJudgedWithin self.entry.limit result }

@@ -1,10 +1,10 @@
 //! The text of a report.
 
-ghost use Rattle.std.specs.Prelude.{◌≡◌, ◌++◌, flat_map, string_bytes, IfOk, OnOk, OnErr};
+ghost use Rattle.std.specs.Prelude.{◌≡◌, ◌++◌, string_bytes, IfOk, OnOk, OnErr};
 ghost use Rattle.mc_campaign.specs.ReportText as spec;
 
 use crate::exit_status::is_clean;
-use crate::{JobOutcome, JobResult, Report, Standing};
+use crate::{JobOutcome, JobResult, Report, ReportLines};
 use mc_core::{Ending, World};
 use mc_explain::Verdict;
 use mc_lane::Stream;
@@ -18,7 +18,7 @@ pub fn print_report<S: Stream>(report: &Report<S>, out: &mut Vec<u8>) -> Result<
     ensures ok { OnOk result (out.new.items ≡ out.old.items ++ spec.report_text report.now.results) }
     ensures err { OnErr result (out.new.items ≡ out.old.items) }
 {
-    let text = text_of(*out.allocator(), report.results.as_slice())?;
+    let text = text_of(*out.allocator(), false, report.results.as_slice())?;
     out.extend_from_slice(text.as_slice())
 }
 
@@ -31,80 +31,48 @@ pub fn print_brief_report<S: Stream>(
     ensures ok { OnOk result (out.new.items ≡ out.old.items ++ spec.brief_report_text report.now.results) }
     ensures err { OnErr result (out.new.items ≡ out.old.items) }
 {
-    let text = brief_text_of(*out.allocator(), report.results.as_slice())?;
+    let text = text_of(*out.allocator(), true, report.results.as_slice())?;
     out.extend_from_slice(text.as_slice())
 }
 
-fn text_of<S: Stream>(alloc: Global, results: &[JobResult<S>]) -> Result<Vec<u8>, OutOfMemory>
-    ensures { IfOk result (λ text. text.items ≡ spec.report_text results.now) }
-{
-    let mut text = Vec::new(alloc);
-    print_jobs(alloc, results, &mut text)?;
-    text.extend_from_slice(totals_line(alloc, results)?.as_bytes())?;
-    Ok(text)
-}
-
-/// Appends the lines of the jobs.
-fn print_jobs<S: Stream>(
+fn text_of<S: Stream>(
     alloc: Global,
+    brief: bool,
     results: &[JobResult<S>],
-    out: &mut Vec<u8>,
-) -> Result<(), OutOfMemory>
-    ensures { OnOk result (out.new.items ≡ out.old.items ++ flat_map spec.job_line results.now) }
+) -> Result<Vec<u8>, OutOfMemory>
+    ensures { IfOk result (λ text. text.items ≡ spec.text_by brief results.now) }
 {
+    let count = results.len();
+    prove!(count <= usize::MAX);
+    let mut lines = ReportLines::new(alloc, brief);
     'jobs: for one in results {
-        print_job(alloc, one, out)?;
+        lines.add(one)?;
     }
-    Ok(())
+    lines.into_text()
 }
 
-fn brief_text_of<S: Stream>(alloc: Global, results: &[JobResult<S>]) -> Result<Vec<u8>, OutOfMemory>
-    ensures { IfOk result (λ text. text.items ≡ spec.brief_report_text results.now) }
-{
-    let mut text = Vec::new(alloc);
-    print_brief_jobs(alloc, results, &mut text)?;
-    text.extend_from_slice(totals_line(alloc, results)?.as_bytes())?;
-    Ok(text)
-}
-
-/// Appends the lines of the jobs with which something was wrong.
-fn print_brief_jobs<S: Stream>(
+/// The line of a job; or nothing in a brief report, if nothing was wrong with it.
+pub(crate) fn line_by<S: Stream>(
     alloc: Global,
-    results: &[JobResult<S>],
-    out: &mut Vec<u8>,
-) -> Result<(), OutOfMemory>
-    ensures { OnOk result (out.new.items ≡ out.old.items ++ flat_map spec.brief_job_line results.now) }
-{
-    'jobs: for one in results {
-        print_brief_job(alloc, one, out)?;
-    }
-    Ok(())
-}
-
-/// Appends the line of a job, if something was wrong with it.
-fn print_brief_job<S: Stream>(
-    alloc: Global,
+    brief: bool,
     one: &JobResult<S>,
-    out: &mut Vec<u8>,
-) -> Result<(), OutOfMemory>
-    ensures { OnOk result (out.new.items ≡ out.old.items ++ spec.brief_job_line one.now) }
+) -> Result<String, OutOfMemory>
+    ensures { IfOk result (λ line. string_bytes line ≡ spec.line_by brief one.now) }
+{
+    if brief {
+        brief_job_line(alloc, one)
+    } else {
+        job_line(alloc, one)
+    }
+}
+
+fn brief_job_line<S: Stream>(alloc: Global, one: &JobResult<S>) -> Result<String, OutOfMemory>
+    ensures { IfOk result (λ line. string_bytes line ≡ spec.brief_job_line one.now) }
 {
     if is_clean(&one.outcome) {
-        return Ok(());
+        return Ok(String::new(alloc));
     }
-    print_job(alloc, one, out)
-}
-
-/// Appends the line of a job.
-fn print_job<S: Stream>(
-    alloc: Global,
-    one: &JobResult<S>,
-    out: &mut Vec<u8>,
-) -> Result<(), OutOfMemory>
-    ensures { OnOk result (out.new.items ≡ out.old.items ++ spec.job_line one.now) }
-{
-    let line = job_line(alloc, one)?;
-    out.extend_from_slice(line.as_bytes())
+    job_line(alloc, one)
 }
 
 fn job_line<S: Stream>(alloc: Global, one: &JobResult<S>) -> Result<String, OutOfMemory>
@@ -160,27 +128,4 @@ fn failure_words(alloc: Global, actor: Actor, ending: Ending) -> Result<String, 
         }
         Ending::NotBegun | Ending::Running | Ending::Done => Ok(String::new(alloc)),
     }
-}
-
-fn totals_line<S: Stream>(alloc: Global, results: &[JobResult<S>]) -> Result<String, OutOfMemory>
-    ensures { IfOk result (λ line. string_bytes line ≡ spec.totals_line results.now) }
-{
-    let jobs = results.len();
-    let explained = count(results, Standing::Explained);
-    let unexplained = count(results, Standing::Unexplained);
-    let other = count(results, Standing::Other);
-    format!(in alloc; "jobs {jobs} explained {explained} unexplained {unexplained} other {other}\n")
-}
-
-/// How many jobs count as this.
-fn count<S: Stream>(results: &[JobResult<S>], wanted: Standing) -> usize
-    ensures { result ≡ spec.count_of wanted results.now }
-{
-    let mut count = 0;
-    'jobs: for one in results {
-        if wanted.is(Standing::of(&one.outcome)) {
-            count += 1;
-        }
-    }
-    count
 }

@@ -1,6 +1,6 @@
 //! What jobs count as.
 
-ghost use Rattle.std.specs.Prelude.{◌≡◌};
+ghost use Rattle.std.specs.Prelude.{◌≡◌, ◌+◌, ◌-◌, ◌^◌, cond, min};
 ghost use Rattle.mc_campaign.specs.ReportText as spec;
 
 use crate::JobOutcome;
@@ -38,6 +38,17 @@ impl Standing {
             Verdict::Explained(_) => Standing::Explained,
             Verdict::Unexplained => Standing::Unexplained,
             Verdict::Undecided => Standing::Other,
+        }
+    }
+
+    /// The count of those that count as this, after one that counts as `other`.
+    pub(crate) fn counted(self, count: u64, other: Standing) -> u64
+        ensures { result ≡ min (count + cond (spec.is_same_standing self other) 1 0) (2 ^ 64 - 1) }
+    {
+        if self.is(other) {
+            count.saturating_add(1)
+        } else {
+            count
         }
     }
 

@@ -5,7 +5,7 @@ use mc_lane::Stream;
 
 /// Follows a campaign while it runs.
 pub trait Watcher<S: Stream> {
-    /// The job came to this. It is called once for each job, in the order in which their results come, on the collector's thread.
+    /// The job came to this. It is called once for each job, in the order in which their results come, on one thread.
     fn ended(&mut self, job: u64, outcome: &JobOutcome<S>);
 }
 

@@ -1,15 +1,21 @@
 //! The threads of a campaign.
 
-ghost use Rattle.std.specs.Prelude.{◌≡◌, ◌≤◌, ◌+◌, ◌^◌, map, All, IfOk, None};
+ghost use Rattle.std.specs.Prelude.{◌≡◌, ◌≤◌, ◌+◌, ◌++◌, ◌^◌, List, map, All, IfOk, None};
 ghost use Rattle.std.specs.{List.range_with_len, Option.option_copied};
-ghost use Rattle.mc_settings.specs.JobKeys.{NameFits};
-ghost use Rattle.mc_campaign.specs.Outcomes.{HasShortKeys, IsJudgedWithin, IsOutcome};
+ghost use Rattle.mc_campaign.specs.Outcomes.{IsJudgedWithin, IsOutcome};
+ghost use Rattle.mc_campaign.specs.Runs.{AreRun};
+ghost use Rattle.mc_campaign.specs.declared.outcome.JobResult.{JobResult};
 
 use crate::job::run_job_beside;
+use crate::message::JobMessage;
+use crate::running::keep_all;
+use crate::turns::Turns;
+use crate::window::{MOST_AHEAD, Window};
 use crate::{
-    Campaign, CampaignError, Collector, Connector, JobMessage, Report, Unwatched, Watcher,
+    Bounds, Campaign, CampaignError, Connector, JobResult, Keeper, Report, Results, Unwatched,
+    Watcher,
 };
-use crossbeam_channel::{Receiver, Sender, unbounded};
+use crossbeam_channel::{Receiver, Sender, bounded};
 use mc_lane::Stream;
 use mc_run::{Desk, Gate};
 use mc_settings::Meeting;
@@ -50,161 +56,191 @@ pub fn run_campaign<S: Stream + Send, C: Connector<S>, G: Gate, R: Threads + Wai
         spread: 0,
         name: None,
     };
-    run_jobs(
+    let results = run_jobs(
         rt,
         alloc,
         campaign,
+        Bounds::NONE,
         workers,
         connector,
         gate,
         &mut Unwatched,
-    )
+        Results::new(alloc),
+    )?;
+    Ok(Report {
+        seed,
+        results: results.all,
+    })
 }
 
-/// The same for any campaign, which may begin with a later number, say how branches meet, and put keys under a name. The watcher is
-/// called with what each job came to.
-pub fn run_jobs<
-    S: Stream + Send,
-    C: Connector<S>,
-    G: Gate,
-    R: Threads + Wait + Sync,
-    W: Watcher<S>,
->(
+/// Runs the jobs of any campaign, until `bounds` end it. The watcher is called with what each job came to, as soon as it has ended; the
+/// keeper gets that in the order of the jobs' numbers. At most 64 jobs have begun, or may begin, beyond those that the keeper was given.
+///
+/// # Errors
+///
+/// See [`CampaignError`]. The workers have ended then, and the keeper is dropped.
+pub fn run_jobs<S, C, G, R, W, K>(
     rt: &R,
     alloc: Global,
     campaign: Campaign<'_>,
+    bounds: Bounds,
     workers: u32,
     connector: &C,
     gate: &G,
     watcher: &mut W,
-) -> Result<Report<S>, CampaignError>
-    requires jobs { campaign.jobs ≤ 10000 }
-    requires last { campaign.first + campaign.jobs ≤ 2 ^ 64 }
-    requires workers { workers ≤ 16 }
-    ensures seed { IfOk result (λ report. report.seed ≡ campaign.entry.seed) }
-    ensures jobs { IfOk result (λ report. map (λ r. r.job) report.results ≡ range_with_len campaign.entry.first campaign.entry.jobs) }
-    ensures outcomes { IfOk result (λ report.
-        All (λ r. IsOutcome campaign.entry.seed (option_copied campaign.entry.name) r.job r.outcome) report.results) }
-    ensures turns { IfOk result (λ report. All (λ r. IsJudgedWithin campaign.entry.limit r.outcome) report.results) }
-    ensures short { IfOk result (λ report. NameFits (option_copied campaign.entry.name) campaign.entry.first campaign.entry.jobs
-        → All (λ r. HasShortKeys r.outcome) report.results) }
-{
-    run_workers(rt, alloc, campaign, workers, connector, gate, watcher)
-}
-
-/// Starts the workers, gives them the jobs, gathers what they send until all have ended, and makes the report of it.
-fn run_workers<
-    'a,
+    keeper: K,
+) -> Result<K, CampaignError>
+where
     S: Stream + Send,
     C: Connector<S>,
     G: Gate,
     R: Threads + Wait + Sync,
     W: Watcher<S>,
->(
+    K: Keeper<JobResult<S>> + Drop,
+    requires last { campaign.first + campaign.jobs ≤ 2 ^ 64 }
+    requires workers { workers ≤ 16 }
+    requires accepts { (r : JobResult S) → IsOutcome campaign.seed (option_copied campaign.name) r.job r.outcome
+        → IsJudgedWithin campaign.limit r.outcome → K.accepts r }
+    ensures { IfOk result (λ kept. (first : K) (before : List (JobResult S)) → K.becomes first before keeper
+        → (results : List (JobResult S)) × K.becomes first (before ++ results) kept × AreRun campaign.entry bounds results) }
+{
+    let turns = Turns::new();
+    run_workers(
+        rt, alloc, campaign, bounds, workers, connector, gate, &turns, watcher, keeper,
+    )
+}
+
+/// The same, with the workers as threads of a scope. All have ended when it returns.
+fn run_workers<'a, S, C, G, R, W, K>(
     rt: &'a R,
     alloc: Global,
     campaign: Campaign<'a>,
+    bounds: Bounds,
     workers: u32,
     connector: &'a C,
     gate: &'a G,
+    turns: &'a Turns,
     watcher: &mut W,
-) -> Result<Report<S>, CampaignError>
-    requires { campaign.first + campaign.jobs ≤ 2 ^ 64 }
-    ensures seed { IfOk result (λ report. report.seed ≡ campaign.entry.seed) }
-    ensures jobs { IfOk result (λ report. map (λ r. r.job) report.results ≡ range_with_len campaign.entry.first campaign.entry.jobs) }
-    ensures outcomes { IfOk result (λ report.
-        All (λ r. IsOutcome campaign.entry.seed (option_copied campaign.entry.name) r.job r.outcome) report.results) }
-    ensures turns { IfOk result (λ report. All (λ r. IsJudgedWithin campaign.entry.limit r.outcome) report.results) }
+    keeper: K,
+) -> Result<K, CampaignError>
+where
+    S: Stream + Send,
+    C: Connector<S>,
+    G: Gate,
+    R: Threads + Wait + Sync,
+    W: Watcher<S>,
+    K: Keeper<JobResult<S>> + Drop,
+    requires last { campaign.first + campaign.jobs ≤ 2 ^ 64 }
+    requires workers { workers ≤ 16 }
+    requires accepts { (r : JobResult S) → IsOutcome campaign.seed (option_copied campaign.name) r.job r.outcome
+        → IsJudgedWithin campaign.limit r.outcome → K.accepts r }
+    ensures { IfOk result (λ kept. (first : K) (before : List (JobResult S)) → K.becomes first before keeper
+        → (results : List (JobResult S)) × K.becomes first (before ++ results) kept × AreRun campaign.entry bounds results) }
 {
     let watcher = &mut *watcher;
     thread::scope(
         thread::scope_env(),
         rt,
-        move |scope| -> Result<Report<S>, CampaignError>
-            requires { campaign.first + campaign.jobs ≤ 2 ^ 64 }
-            ensures seed { IfOk result (λ report. report.seed ≡ campaign.entry.seed) }
-            ensures jobs { IfOk result (λ report.
-                map (λ r. r.job) report.results ≡ range_with_len campaign.entry.first campaign.entry.jobs) }
-            ensures outcomes { IfOk result (λ report.
-                All (λ r. IsOutcome campaign.entry.seed (option_copied campaign.entry.name) r.job r.outcome) report.results) }
-            ensures turns { IfOk result (λ report. All (λ r. IsJudgedWithin campaign.entry.limit r.outcome) report.results) }
+        move |scope| -> Result<K, CampaignError>
+            requires last { campaign.first + campaign.jobs ≤ 2 ^ 64 }
+            requires workers { workers ≤ 16 }
+            requires accepts { (r : JobResult S) → IsOutcome campaign.seed (option_copied campaign.name) r.job r.outcome
+                → IsJudgedWithin campaign.limit r.outcome → K.accepts r }
+            ensures { IfOk result (λ kept. (first : K) (before : List (JobResult S)) → K.becomes first before keeper
+                → (results : List (JobResult S)) × K.becomes first (before ++ results) kept × AreRun campaign.entry bounds results) }
         {
-            run_in_scope(
-                rt, alloc, campaign, workers, connector, gate, watcher, scope,
-            )
+            let kept = run_in_scope(
+                rt, alloc, campaign, bounds, workers, connector, gate, turns, watcher, keeper,
+                scope,
+            );
+            turns.close(rt);
+            kept
         },
     )
 }
 
-/// The same, where the workers are threads of this scope.
-fn run_in_scope<
-    's,
-    'a: 's,
-    E,
+/// Starts the workers as threads of this scope, and has what the jobs come to kept.
+fn run_in_scope<'s, 'a: 's, E, S, C, G, R, W, K>(
+    rt: &'s R,
+    alloc: Global,
+    campaign: Campaign<'a>,
+    bounds: Bounds,
+    workers: u32,
+    connector: &'s C,
+    gate: &'s G,
+    turns: &'s Turns,
+    watcher: &mut W,
+    keeper: K,
+    scope: &Scope<'s, E>,
+) -> Result<K, CampaignError>
+where
     S: Stream + Send + 's,
     C: Connector<S>,
     G: Gate,
     R: Threads + Wait + Sync,
     W: Watcher<S>,
->(
-    rt: &'s R,
-    alloc: Global,
-    campaign: Campaign<'a>,
-    workers: u32,
-    connector: &'s C,
-    gate: &'s G,
-    watcher: &mut W,
-    scope: &Scope<'s, E>,
-) -> Result<Report<S>, CampaignError>
-    requires { campaign.first + campaign.jobs ≤ 2 ^ 64 }
-    ensures seed { IfOk result (λ report. report.seed ≡ campaign.entry.seed) }
-    ensures jobs { IfOk result (λ report. map (λ r. r.job) report.results ≡ range_with_len campaign.entry.first campaign.entry.jobs) }
-    ensures outcomes { IfOk result (λ report.
-        All (λ r. IsOutcome campaign.entry.seed (option_copied campaign.entry.name) r.job r.outcome) report.results) }
-    ensures turns { IfOk result (λ report. All (λ r. IsJudgedWithin campaign.entry.limit r.outcome) report.results) }
+    K: Keeper<JobResult<S>> + Drop,
+    requires last { campaign.first + campaign.jobs ≤ 2 ^ 64 }
+    requires workers { workers ≤ 16 }
+    requires accepts { (r : JobResult S) → IsOutcome campaign.seed (option_copied campaign.name) r.job r.outcome
+        → IsJudgedWithin campaign.limit r.outcome → K.accepts r }
+    ensures { IfOk result (λ kept. (first : K) (before : List (JobResult S)) → K.becomes first before keeper
+        → (results : List (JobResult S)) × K.becomes first (before ++ results) kept × AreRun campaign.entry bounds results) }
 {
-    let collector = Collector::new(alloc, campaign)?;
-    let (to_workers, jobs) = unbounded(alloc)?;
-    let (to_collector, results) = unbounded(alloc)?;
+    let mut keeper = keeper;
+    // There is room for all that may come, so that none is lost.
+    let (to_collector, results) = bounded(alloc, MOST_AHEAD as usize)?;
+    let mut window = Window::new(alloc)?;
     start_workers(
         rt,
         alloc,
         campaign,
+        bounds,
         workers,
         connector,
         gate,
-        jobs,
+        turns,
         to_collector,
         scope,
     )?;
-    // The jobs come only now: where a worker has no thread, those before it end without one.
-    send_jobs(rt, campaign, to_workers);
-    let collector = gather(rt, results, collector, watcher);
-    Ok(collector.finish(rt, alloc, connector, gate, watcher)?)
+    let ahead = u64::from(4 * workers).max(1);
+    keep_all(
+        rt,
+        alloc,
+        campaign,
+        bounds,
+        ahead,
+        connector,
+        gate,
+        turns,
+        &results,
+        &mut window,
+        watcher,
+        &mut keeper,
+    )?;
+    Ok(keeper)
 }
 
-/// Starts the workers, each with these ends of the channels and a second thread for its jobs, as threads of the scope.
-fn start_workers<
-    's,
-    'a: 's,
-    E,
+/// Starts the workers, each with a second thread for its jobs, as threads of the scope.
+fn start_workers<'s, 'a: 's, E, S, C, G, R>(
+    rt: &'s R,
+    alloc: Global,
+    campaign: Campaign<'a>,
+    bounds: Bounds,
+    workers: u32,
+    connector: &'s C,
+    gate: &'s G,
+    turns: &'s Turns,
+    to_collector: Sender<JobMessage<'a, S>>,
+    scope: &Scope<'s, E>,
+) -> Result<(), CampaignError>
+where
     S: Stream + Send + 's,
     C: Connector<S>,
     G: Gate,
     R: Threads + Wait + Sync,
->(
-    rt: &'s R,
-    alloc: Global,
-    campaign: Campaign<'a>,
-    workers: u32,
-    connector: &'s C,
-    gate: &'s G,
-    jobs: Receiver<u64>,
-    to_collector: Sender<JobMessage<'a, S>>,
-    scope: &Scope<'s, E>,
-) -> Result<(), CampaignError> {
+{
     'workers: for _ in 0..workers {
-        let jobs = jobs.clone()?;
         let to_collector = to_collector.clone()?;
         let (desk, second) = Desk::new(rt, alloc, workers)?;
         let serve = move || second.serve(rt, alloc, gate);
@@ -213,10 +249,11 @@ fn start_workers<
                 rt,
                 alloc,
                 campaign,
+                bounds,
                 connector,
                 gate,
+                turns,
                 &desk,
-                jobs,
                 to_collector,
             )
         };
@@ -227,49 +264,23 @@ fn start_workers<
     Ok(())
 }
 
-/// Sends the numbers of the jobs. One for which there is no memory, or no worker, is left to the collector.
-fn send_jobs<R: Wait>(rt: &R, campaign: Campaign<'_>, to_workers: Sender<u64>) {
-    'jobs: for place in 0..campaign.jobs {
-        if let Some(job) = campaign.first.checked_add(place) {
-            let _unsent = to_workers.send(rt, job);
-        }
-    }
-}
-
-/// Gathers what comes, until no worker is left to send.
-fn gather<'a, S: Stream + Send, R: Wait, W: Watcher<S>>(
-    rt: &R,
-    results: Receiver<JobMessage<'a, S>>,
-    mut collector: Collector<'a, S>,
-    watcher: &mut W,
-) -> Collector<'a, S>
-    ensures { result ≡ collector.entry }
-{
-    'results: for _ in rt.forever() {
-        let Ok(message) = results.recv(rt) else {
-            break;
-        };
-        collector.keep(message, watcher);
-    }
-    collector
-}
-
-/// Runs one job after the other over the desk, until there are no more, and sends what each came to. A result for which there is no
-/// memory is lost, and its job is left to the collector.
+/// Runs one job after the other over the desk, until no further one begins, and sends what each came to.
 fn work<'a, S: Stream + Send, C: Connector<S>, G: Gate, R: Threads + Wait + Sync>(
     rt: &R,
     alloc: Global,
     campaign: Campaign<'a>,
+    bounds: Bounds,
     connector: &C,
     gate: &G,
+    turns: &Turns,
     desk: &Desk<S>,
-    jobs: Receiver<u64>,
     to_collector: Sender<JobMessage<'a, S>>,
 ) {
     'jobs: for _ in rt.forever() {
-        let Ok(job) = jobs.recv(rt) else {
+        let Some(place) = turns.take(rt, |place| bounds.end(place, connector.is_over())) else {
             break;
         };
+        let job = campaign.first.wrapping_add(place);
         let outcome = run_job_beside(rt, alloc, campaign, connector, gate, job, desk);
         let message = JobMessage::of(campaign, job, outcome);
         drop(to_collector.send(rt, message));

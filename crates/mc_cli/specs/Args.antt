@@ -163,8 +163,8 @@ pub record IsStressArgs (value : Text → Option Text) (args : StressArgs) : Typ
   pub stats : args.stats ≡ is_set (value (codes "stats"))
   pub json : args.json ≡ is_set (value (codes "json"))
 
--- the values of the options of `campaign` say until when it runs in blocks, if they name a time or a number of unexplained jobs; a time
--- doesn't stand beside a number of jobs
+-- the values of the options of `campaign` say what ends it before its last job, if they name a time or a number of unexplained jobs; a
+-- time doesn't stand beside a number of jobs
 abbrev pub IsUntil : (Text → Option Text) → Option Until → Type 0
 IsUntil value None = (value (codes "for") ≡ None) × (value (codes "stop-after") ≡ None)
 IsUntil value (Some until) = MayBeValue kind.Time (value (codes "for")) until.time

@@ -315,7 +315,7 @@ pub struct StressArgs<'a> {
     pub json: bool,
 }
 
-/// Until when a campaign begins blocks of jobs. One of the two bounds is there.
+/// What ends a campaign before its last job. One of the two bounds is there.
 #[derive(Clone, Copy, Drop)]
 pub struct Until {
     /// For how many milliseconds, 1 to 86,400,000, if there is such a time.
@@ -351,7 +351,7 @@ pub struct Plan {
     pub why: bool,
     /// How often a smaller script is run, before it counts as explained.
     pub tries: u64,
-    /// Until when it runs in blocks of jobs, if it does.
+    /// What ends it before its last job, if anything does.
     pub until: Option<Until>,
 }
 

@@ -189,4 +189,4 @@ pub const SKIP: Row = row!(Daily "skip" "RACES" Kind::Names, "Leave these races 
 pub const OUT: Row = row!(Daily "out" "DIR" Kind::Path, "Write the evidence into this folder");
 
 pub const STOP_AFTER: Row =
-    row!(Rare "stop-after" "N" Kind::Number(1, 10_000), "Begin no block when N jobs are unexplained");
+    row!(Rare "stop-after" "N" Kind::Number(1, 10_000), "End when N jobs are unexplained");

@@ -111,7 +111,7 @@ fn read_forms<'a>(options: &ArgMatches<'a>) -> Result<(bool, bool, bool), Option
     Ok((brief, json, junit))
 }
 
-// Until when the campaign runs in blocks, if it does.
+// What ends the campaign before its last job, if anything does.
 fn read_until<'a>(options: &ArgMatches<'a>) -> Result<Option<Until>, OptionFault<'a>>
     ensures until { IfOk result (IsUntil (first_value (found_of options.now))) }
     ensures none { IfErr result (λ _. (until : Option Until) → IsUntil (first_value (found_of options.now)) until → ⊥) }

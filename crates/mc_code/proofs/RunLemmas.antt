@@ -1,7 +1,7 @@
 -- Runs: joined, longer by a move, what holds along them, and which are paths.
-use Rattle.std.proofs.Common.{◌≡◌, ℕ, Bool, true, false, Option, Some, None, List, [], ◌∷◌, ◌++◌, slice_get}
+use Rattle.std.proofs.Common.{◌≡◌, ℕ, Bool, true, false, ◌&&◌, Option, Some, None, List, [], ◌∷◌, ◌++◌, slice_get}
 use Rattle.std.proofs.Common.{slice_index_or, refl, ap, sym, subst, ◌∙◌, if◌then◌else◌}
-use Rattle.mc_protocol.specs.Legal.{class_of, is_legal, is_fit_for}
+use Rattle.mc_protocol.specs.Legal.{class_of, is_legal, suits, is_fit_for}
 use Rattle.mc_protocol.specs.{declared.request.Verb.Verb, declared.reply.Class.Class, declared.reply.Reply.Reply}
 use Rattle.mc_protocol.specs.declared.request.Verb.TheVariants as verb
 use Rattle.mc_protocol.specs.declared.reply.Class.TheVariants as class
@@ -89,6 +89,13 @@ class_of_reply v class.Deleted number = refl
 class_of_reply v class.Touched number = refl
 class_of_reply v class.Number number = refl
 class_of_reply v class.NotNumber number = refl
+
+pub fit_is_legal : (v : Verb) (r : Reply) → is_fit_for v r ≡ true → is_legal v (class_of r) ≡ true
+fit_is_legal v r fit = first (is_legal v (class_of r)) (suits v r) fit
+  where
+    first : (a b : Bool) → (a && b) ≡ true → a ≡ true
+    first true b e = refl
+    first false b e = e
 
 hit_fits : (v : Verb) (number : ℕ) → is_legal v class.Hit ≡ true → is_fit_for v (reply.Hit 0 [] (cas_of v number)) ≡ true
 hit_fits verb.Get number legal = refl

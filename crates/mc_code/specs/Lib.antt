@@ -17,13 +17,6 @@ pub mod States
 pub mod Runs
 pub mod Standing
 pub mod Calls
-pub mod ScriptRuns
-pub mod Agreement
-pub mod Layout
 pub mod RunLaws
 pub mod StandingLaws
 pub mod NumberLaws
-pub mod LayoutLaws
-pub mod AsmKinds
--- What private contracts cite.
-pub mod Assembling

@@ -1,9 +1,9 @@
--- Laws of paths, runs and agreement, whatever the script and the code are.
+-- Laws of paths and runs, whatever the code is.
 use Rattle.std.specs.Prelude.{◌≡◌, ◌↔◌, ℕ, Bool, true, false, List, ◌++◌, map}
 use Rattle.mc_protocol.specs.{Legal.class_of, declared.actor.Actor.Actor}
-use Rattle.mc_script.specs.{declared.step.Template.Template, Script.Script, WellFormed.IsScript}
+use Rattle.mc_script.specs.declared.step.Template.{Template}
 use Rattle.mc_code.specs.States.{Tagged, State, Outcome, nothing_to_bind, ended}
-use Rattle.mc_code.specs.{declared.instr.Instr.Instr, Agreement.Agrees, Code.Code, Code.instructions_in, Layout.code_of, Paths.Edge}
+use Rattle.mc_code.specs.{declared.instr.Instr.Instr, Code.Code, Code.instructions_in, Paths.Edge}
 use Rattle.mc_code.specs.{Paths.IsPath, Paths.IsComplete, Runs.Exchange, Runs.IsRun, Standing.ComesTo}
 
 -- the edge along which an exchange goes
@@ -52,7 +52,3 @@ StopsOnce = (c : Code) (actor : Actor) (variables : List Tagged) (exchanges : Li
     → ComesTo c actor variables exchanges st outcome → ComesTo c actor variables exchanges st' outcome' → stops outcome ≡ true
     → stops outcome' ≡ true
     → (st ≡ st') × (outcome ≡ outcome')
-
--- every script agrees with its layout
-abbrev pub CodesAgree : Type 0
-CodesAgree = (s : Script) → IsScript s → Agrees s (code_of s)

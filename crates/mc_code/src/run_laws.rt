@@ -1,5 +1,5 @@
-//! What follows from the definitions of paths, runs and agreement, whatever the code is.
-ghost use Rattle.mc_code.specs.RunLaws.{CodesAgree, CompletePathsEnd, EndsAreComplete, PathsAreRuns, PathsSplit, RunsArePaths, StopsOnce};
+//! What follows from the definitions of paths and runs, whatever the code is.
+ghost use Rattle.mc_code.specs.RunLaws.{CompletePathsEnd, EndsAreComplete, PathsAreRuns, PathsSplit, RunsArePaths, StopsOnce};
 
 /// A path of two parts goes by a place in between, and two paths that meet at a place are one.
 pub fn paths_split()
@@ -29,9 +29,4 @@ pub fn complete_paths_end()
 /// After the same exchanges a section of code stops at the same outcome: where it is about to send, is done, or is wrong.
 pub fn sections_stop_once()
     ensures { StopsOnce }
-{}
-
-/// Every script does the same as the code that it is laid out as.
-pub fn codes_agree()
-    ensures { CodesAgree }
 {}

@@ -1,12 +1,12 @@
-pub mod BlockJobs
-pub mod BlockSteps
-pub mod BlockTexts
 pub mod Counts
 pub mod KeyNames
 pub mod MoreAnswers
 pub mod MoreNotes
 pub mod MoreRuns
+pub mod ReportJobs
 pub mod ReportStatuses
+pub mod ReportSteps
+pub mod ReportTexts
 pub mod RunTexts
 pub mod Shown
 pub mod TallyMore

@@ -1,12 +1,14 @@
 -- What shows the unexplained ones of some jobs, one job after the other.
-use Rattle.std.proofs.Common.{◌≡◌, ◌++◌, ◌∷◌, ◌-◌, ◌<◌, ◌≤◌, ◌∙◌}
-use Rattle.std.proofs.Common.{arith, refl, ap, sym, length, ℕ, zero, suc, List, [], Bool, All, Option, true, false}
-use Rattle.std.proofs.{lemmas.List.append-nil, lemmas.List.Elements.All-head, lemmas.List.Elements.All-tail, lemmas.List.Elements.All-weaker}
+use Rattle.std.proofs.Common.{◌≡◌, ◌⊎◌, ◌∷◌, ◌-◌, ◌<◌, ◌≤◌, ◌∙◌}
+use Rattle.std.proofs.Common.{arith, refl, ap, inl, inr, subst, sym, ℕ, zero, suc, List, [], Bool, Option, Result, Ok, Err, IfOk, true, false}
+use Rattle.std.proofs.Common.{Vec}
+use Rattle.std.specs.declared.alloc.Global.{Global}
+use Rattle.std.proofs.lemmas.List.{append-nil}
 use Rattle.std.specs.Prelude.{if◌then◌else◌, filter, take}
 use Rattle.mc_protocol.specs.Lines.{Word}
 use Rattle.mc_campaign.specs.{Outcomes.IsOutcome, declared.outcome.JobOutcome.JobOutcome, declared.outcome.JobResult.JobResult}
 use Rattle.mc_campaign.specs.declared.outcome.JobOutcome.TheVariants as outcome
-use Rattle.mc_command.specs.CampaignAnswers.{AreShown, HasTrueVerdict, is_unexplained, shown_jobs}
+use Rattle.mc_command.specs.CampaignAnswers.{AreShown, HasTrueVerdict, IsShownJob, MOST_SHOWN, ShowsAtMost, is_unexplained, shown_jobs}
 
 kept : {X : Type 0} (test : X → Bool) (x : X) (xs : List X) → test x ≡ true → filter test (x ∷ xs) ≡ x ∷ filter test xs
 kept test x xs is = ap (λ b. if b then x ∷ filter test xs else filter test xs) is
@@ -37,36 +39,39 @@ pub none_shown : {S : Type 0} (left : ℕ) → shown_jobs {S = S} left [] ≡ []
 none_shown zero = refl
 none_shown (suc n) = refl
 
--- where no jobs are left, what is written shows all that are to be shown
-pub whole_is_shown : {S : Type 0} (why : Bool) (left most : ℕ) (rest results : List (JobResult S)) (text new : List ℕ) → length rest ≡ 0 → new ≡ []
-    → ((more : List ℕ) → AreShown why (shown_jobs left rest) more
-    → (whole : List ℕ) × AreShown why (shown_jobs most results) whole × (text ++ more ≡ new ++ whole))
-    → AreShown why (shown_jobs most results) text
-whole_is_shown {S} why left most [] results text new none empty all =
-    let whole = all [] (rw (none_shown {S = S} left) refl) in
-    let same : text ≡ whole.0 = sym (append-nil text) ∙ (whole.2 ∙ ap (λ t. t ++ whole.0) empty) in
-    rw same whole.1
-whole_is_shown why left most (r ∷ rest) results text new none empty all = absurd (cc (none))
+-- one job that is shown, and one that isn't
+pub shows_one : {S : Type 0} (show why : Bool) (left : ℕ) (r : JobResult S) (text : List ℕ) → show ≡ true → 0 < left → is_unexplained r ≡ true
+    → IsShownJob why r text → ShowsAtMost left show why (r ∷ []) text
+shows_one {S} true why left r text asked some found is =
+    let same = shown_one left r [] some found ∙ ap (λ l. r ∷ l) (none_shown {S = S} (left - 1)) in
+    subst (λ l. AreShown why l text) (sym same) (text, [], is, refl, sym (append-nil text))
+shows_one false why left r text asked some found is = absurd (cc (asked))
 
--- what is known of all jobs is known of the first one, and of the others
-pub told_first : {S : Type 0} (r : JobResult S) (rest : List (JobResult S)) → All (λ r. HasTrueVerdict r.outcome) (r ∷ rest)
-    → HasTrueVerdict r.outcome
-told_first r rest told = All-head (λ r. HasTrueVerdict r.outcome) r rest told
+pub shows_none : {S : Type 0} (show why : Bool) (left : ℕ) (r : JobResult S) (text : List ℕ) → text ≡ []
+    → (show ≡ false) ⊎ ((left ≤ 0) ⊎ (is_unexplained r ≡ false)) → ShowsAtMost left show why (r ∷ []) text
+shows_none false why left r text none hidden = none
+shows_none true why left r text none (inl unasked) = absurd (cc (unasked))
+shows_none {S} true why left r text none (inr (inl over)) =
+    subst (λ l. AreShown why l text) (sym (shown_no_more left r [] over ∙ none_shown {S = S} left)) none
+shows_none {S} true why left r text none (inr (inr other)) =
+    subst (λ l. AreShown why l text) (sym (shown_later left r [] other ∙ none_shown {S = S} left)) none
 
-pub told_later : {S : Type 0} (r : JobResult S) (rest : List (JobResult S)) → All (λ r. HasTrueVerdict r.outcome) (r ∷ rest)
-    → All (λ r. HasTrueVerdict r.outcome) rest
-told_later r rest told = All-tail (λ r. HasTrueVerdict r.outcome) r rest told
+pub shown_less : {S E : Type 0} (found : Result (Vec ℕ Global) E) (show why : Bool) (left : ℕ) (r : JobResult S) → show ≡ true → 0 < left
+    → is_unexplained r ≡ true → IfOk found (λ text. IsShownJob why r text.items) → IfOk found (λ text. ShowsAtMost left show why (r ∷ []) text.items)
+shown_less (Ok text) show why left r asked some found is = shows_one show why left r text.items asked some found is
+shown_less (Err e) show why left r asked some found is = tt
+
+pub hidden_less : {S : Type 0} (show : Bool) (before : ℕ) (r : JobResult S)
+    → (show ≡ false) ⊎ ((MOST_SHOWN ≤ before) ⊎ (is_unexplained r ≡ false))
+    → (show ≡ false) ⊎ ((MOST_SHOWN - before ≤ 0) ⊎ (is_unexplained r ≡ false))
+hidden_less show before r (inl unasked) = inl unasked
+hidden_less show before r (inr (inl over)) = inr (inl (omega (arith, over)))
+hidden_less show before r (inr (inr other)) = inr (inr other)
 
 -- the verdicts on the runs of a campaign are true of their histories
-true_verdict : {S : Type 0} (seed : ℕ) (name : Option Word) (job : ℕ) (found : JobOutcome S) → IsOutcome seed name job found
+pub true_verdict : {S : Type 0} (seed : ℕ) (name : Option Word) (job : ℕ) (found : JobOutcome S) → IsOutcome seed name job found
     → HasTrueVerdict found
 true_verdict seed name job (outcome.NotMade fault) is = tt
 true_verdict seed name job (outcome.NoLane actor) is = tt
 true_verdict seed name job (outcome.NotRun error) is = tt
 true_verdict seed name job (outcome.Ran run history verdict turns) is = rw is.0.history is.0.trial.explained
-
-pub true_verdicts : {S : Type 0} (seed : ℕ) (name : Option Word) (results : List (JobResult S))
-    → All (λ r. IsOutcome seed name r.job r.outcome) results → All (λ r. HasTrueVerdict r.outcome) results
-true_verdicts seed name results are =
-    All-weaker (λ r. IsOutcome seed name r.job r.outcome) (λ r. HasTrueVerdict r.outcome)
-    (λ r is. true_verdict seed name r.job r.outcome is) results are

@@ -2,7 +2,7 @@
 use Rattle.std.specs.Prelude.{ℕ, Option, List}
 use Rattle.mc_cli.specs.declared.args.Plan.{Plan}
 use Rattle.mc_answers.specs.{Writing.WritesBy, declared.status.Status.Status}
-use Rattle.mc_command.specs.Blocks.{Campaigns}
+use Rattle.mc_command.specs.CampaignReports.{Campaigns}
 
 -- what was written of the campaign, with its keys under the name, if there is one, is right, or that memory ran out; and so is the status
 abbrev pub WritesReport : Plan → Option (List ℕ) → Option (List ℕ) → Option (List ℕ) → Status → Type 0

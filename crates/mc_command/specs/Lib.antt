@@ -1,5 +1,5 @@
-pub mod Blocks
 pub mod CampaignAnswers
+pub mod CampaignReports
 pub mod Command
 pub mod Drawing
 pub mod Overlaps

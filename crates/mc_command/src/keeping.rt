@@ -4,10 +4,12 @@ ghost use Rattle.std.specs.Arc.{arc_value};
 ghost use Rattle.mc_command.specs.RunAnswers as answers;
 
 use crate::evidence::later_evidence;
-use crate::run::{Played, Ran, Remarks, no_connection, play_connections, status_of, wait_for_more};
+use crate::run::{Played, Ran, Remarks, no_connection, play_connections, wait_for_more};
 use mc_cli::RunArgs;
 use mc_connect::{Connection, Kept, Network, Socket, Unconnected};
+use mc_core::Ending;
 use mc_lane::Wire;
+use mc_protocol::Actor;
 use mc_run::Desk;
 use mc_sound::Checked;
 use std::alloc::{AllocError, Global};
@@ -16,8 +18,8 @@ use std::sync::{Arc, Wait};
 use std::thread::Threads;
 
 /// Runs the code over the connections that are kept, or else over new ones, and judges what came of it. One that the server has closed
-/// meanwhile, or on which bytes have come, is replaced before anything is sent. They are kept where the run is done and explained, and
-/// nothing more has come; with `target.reconnect` none are. If there is a desk, no thread is made for the run.
+/// meanwhile, or on which bytes have come, is replaced before anything is sent. They are kept if all sections are done and nothing more
+/// has come, whatever the verdict; with `target.reconnect` none are. If there is a desk, no thread is made for the run.
 pub fn play_kept<R: Threads + Wait + Clock + Sync, N: Network>(
     rt: &R,
     alloc: Global,
@@ -71,10 +73,21 @@ pub fn last_remarks<R: Clock, C: Connection>(
     later_remarks(alloc, kept)
 }
 
-// The run is done and explained, and there is nothing to say of what it received.
+// All sections of the run are done, and there is nothing to say of what they received.
 fn is_clean(played: &Played, remarks: &Remarks) -> bool {
     match remarks {
-        Remarks::Evidence(all) => all.is_empty() && status_of(played).is_success(),
+        Remarks::Evidence(all) => all.is_empty() && is_done(played),
         Remarks::None | Remarks::NoConnection(_) | Remarks::WrongLine(_) => false,
+    }
+}
+
+fn is_done(played: &Played) -> bool {
+    match played {
+        Played::Ended(world, _, _, _) => {
+            world.ending(Actor::P) == Ending::Done
+                && world.ending(Actor::A) == Ending::Done
+                && world.ending(Actor::B) == Ending::Done
+        }
+        Played::NoConnection(_) | Played::NotRun => false,
     }
 }

@@ -4,11 +4,9 @@
 //! and `mc_server`. `mc_connect` makes connections: over its `Network` `run_target` answers a line of `run`, and tells a `RunObserver` of
 //! each run; `run_command` is that for one run at a server alone, over TCP. `serve_connections` answers a line of `serve`,
 //! `run_campaign_at` one of `campaign`, and `run_selftest` one of `selftest`. What each writes is right, whatever a server answers
-//! (`specs/RepeatAnswers.antt`, `specs/Blocks.antt`, `specs/ServeAnswers.antt`, `specs/SelftestAnswers.antt`).
+//! (`specs/RepeatAnswers.antt`, `specs/CampaignReports.antt`, `specs/ServeAnswers.antt`, `specs/SelftestAnswers.antt`).
 #![tactic(auto)]
 
-mod block_connector;
-mod blocks;
 mod both_read;
 mod campaigning;
 mod evidence;
@@ -25,6 +23,7 @@ mod renaming;
 mod repeated;
 mod repeating;
 mod replies;
+mod reports;
 mod run;
 mod run_teller;
 mod selftest;
@@ -38,7 +37,7 @@ mod target_code;
 mod totals;
 mod watching;
 
-pub use campaigning::{campaign_answer, run_campaign_at};
+pub use campaigning::run_campaign_at;
 pub use evidence::failure_text;
 pub use keeping::play_kept;
 pub use meeting::seed_by;

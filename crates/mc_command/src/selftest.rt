@@ -1,5 +1,6 @@
 //! The command `selftest`: a campaign against a server that is right, and a run against one with a race, both in this process.
 ghost use Rattle.std.specs.Prelude.{◌≡◌, true, IfOk};
+ghost use Rattle.mc_campaign.specs.ReportStatus.{status_of};
 ghost use Rattle.mc_answers.specs.{Statuses.status_number, Writing.WritesRightly};
 ghost use Rattle.mc_command.specs.SelftestAnswers as answers;
 
@@ -9,10 +10,13 @@ use crate::run::{Played, play_code};
 use crate::servers::servers_of;
 use crate::target_code::read_target_code;
 use mc_answers::{Sink, Status, write_text};
-use mc_campaign::{Campaign, Unwatched, report_status, run_jobs};
+use mc_campaign::{
+    Bounds, Campaign, JobResult, Report, Results, Unwatched, report_status, run_jobs,
+};
 use mc_cli::{RunArgs, Search, Seconds};
 use mc_connect::{Dialer, Servers, TcpNetwork};
 use mc_explain::Verdict;
+use mc_lane::Stream;
 use mc_run::FreeGate;
 use mc_server::{Caller, Racy, Shared, listen};
 use mc_settings::Meeting;
@@ -179,18 +183,32 @@ where
     let timeout = Some(TIMEOUT.duration());
     // The server counts the connections, and ends with the last one.
     let dialer = Dialer::new(rt, alloc, Servers::one(server, timeout, None), true, "");
-    match run_jobs(
+    let found = run_jobs(
         rt,
         alloc,
         CAMPAIGN,
+        Bounds::NONE,
         WORKERS,
-        &JobConnector { dialer: &dialer },
+        &JobConnector::new(rt, &dialer, None),
         &FreeGate,
         &mut Unwatched,
-    ) {
-        Ok(report) => report_status(&report) == 0,
+        Results::new(alloc),
+    );
+    match found {
+        Ok(results) => are_clean(results.all),
         Err(_) => false,
     }
+}
+
+// Whether all of these jobs are explained, and all their sections done.
+fn are_clean<S: Stream>(results: Vec<JobResult<S>>) -> bool
+    ensures { result ≡ true → status_of results.items ≡ 0 }
+{
+    let report = Report {
+        seed: CAMPAIGN.seed,
+        results,
+    };
+    report_status(&report) == 0
 }
 
 // Whether the run of the two increments is unexplained.

@@ -1,9 +1,9 @@
 //! The histories of unexplained jobs, and why nothing explains them.
-ghost use Rattle.std.specs.Prelude.{◌≡◌, ◌++◌, ℕ, All, List, IfOk, OnOk};
+ghost use Rattle.std.specs.Prelude.{◌≡◌, ◌⊎◌, ◌<◌, ◌≤◌, ◌∷◌, ◌-◌, [], IfOk, false, true};
 ghost use Rattle.mc_explain.specs.Verdicts.{IsTrueOf};
 ghost use Rattle.mc_command.specs.CampaignAnswers as answers;
 
-use crate::campaigning::is_unexplained;
+use crate::tally::is_unexplained;
 use mc_answers::{Counted, why_text};
 use mc_campaign::{JobOutcome, JobResult};
 use mc_cli::Search;
@@ -14,46 +14,34 @@ use mc_model::History;
 use mc_protocol::OutOfMemory;
 use std::alloc::Global;
 
-/// At most this many jobs of a campaign are shown.
-pub const MOST_SHOWN: usize = 10;
+// At most this many jobs of a campaign are shown.
+const MOST_SHOWN: u64 = 10;
 
-/// What shows the first of the jobs that are unexplained, at most `most` of them: of each a line with its number, why nothing explains
-/// its history, where `how` asks for it, and the history.
+/// What shows the job where that is asked for, it is unexplained, and fewer than ten before it were: a line with its number, why nothing
+/// explains its history, where `how` asks for it, and the history.
 pub fn shown_text<S: Stream>(
     alloc: Global,
-    most: usize,
+    show: bool,
     how: Search,
-    results: &[JobResult<S>],
+    before: u64,
+    one: &JobResult<S>,
 ) -> Result<Vec<u8>, OutOfMemory>
-    requires { All (λ r. answers.HasTrueVerdict r.outcome) results.now }
-    ensures { IfOk result (λ text.
-        answers.AreShown how.why (answers.shown_jobs most results.now) text.items) }
+    requires { answers.HasTrueVerdict one.now.outcome }
+    ensures { IfOk result (λ text. answers.ShowsAtMost (answers.MOST_SHOWN - before) show how.why (one.now ∷ []) text.items) }
 {
-    let mut text = Vec::new(alloc);
-    let mut rest = results;
-    let mut left = most;
-    'jobs: while let Some((one, others)) = rest.split_first() {
-        if left > 0 && is_unexplained(one) {
-            print_job(alloc, how, one, &mut text)?;
-            left -= 1;
-        }
-        rest = others;
+    if is_shown(show, before, one) {
+        job_text(alloc, how, one)
+    } else {
+        Ok(Vec::new(alloc))
     }
-    Ok(text)
 }
 
-fn print_job<S: Stream>(
-    alloc: Global,
-    how: Search,
-    one: &JobResult<S>,
-    out: &mut Vec<u8>,
-) -> Result<(), OutOfMemory>
-    requires { answers.HasTrueVerdict one.now.outcome }
-    ensures { OnOk result ((text : List ℕ) × answers.IsShownJob how.why one.now text
-        × (out.new.items ≡ out.old.items ++ text)) }
+// The job is shown, where it is asked for and `before` ones were unexplained.
+fn is_shown<S: Stream>(show: bool, before: u64, one: &JobResult<S>) -> bool
+    ensures shown { result ≡ true → (show ≡ true) × (before < answers.MOST_SHOWN) × (answers.is_unexplained one.now ≡ true) }
+    ensures hidden { result ≡ false → (show ≡ false) ⊎ ((answers.MOST_SHOWN ≤ before) ⊎ (answers.is_unexplained one.now ≡ false)) }
 {
-    let text = job_text(alloc, how, one)?;
-    out.extend_from_slice(text.as_slice())
+    show && before < MOST_SHOWN && is_unexplained(one)
 }
 
 fn job_text<S: Stream>(

@@ -1,11 +1,12 @@
 //! What the jobs of a campaign came to, together, as far as they have run.
-ghost use Rattle.std.specs.Prelude.{◌≡◌, ◌+◌, ◌-◌, ◌<◌, ◌^◌, List, ◌++◌, length, min};
-ghost use Rattle.mc_command.specs.{Blocks.unexplained_of, Tallies.IsTally};
+ghost use Rattle.std.specs.Prelude.{◌≡◌, ◌+◌, ◌<◌, ◌^◌, List, [], ◌∷◌, ◌++◌, length};
+ghost use Rattle.mc_answers.specs.Statuses.{status_number};
+ghost use Rattle.mc_command.specs.CampaignAnswers as answers;
+ghost use Rattle.mc_command.specs.Tallies.{IsTally};
 ghost use Rattle.mc_campaign.specs.declared.outcome.JobResult.{JobResult};
 
-use crate::campaigning::{first_unexplained, is_unexplained, status_of};
 use mc_answers::Status;
-use mc_campaign::{JobResult, Report, report_status};
+use mc_campaign::{JobResult, Standing, job_status};
 use mc_lane::Stream;
 
 /// What jobs came to.
@@ -37,32 +38,38 @@ impl Tally {
         }
     }
 
-    /// Of those of a block more.
-    pub fn with<S: Stream>(self, block: &Report<S>) -> Tally
-        ensures jobs { result.jobs ≡ min (self.jobs + length block.now.results) (2 ^ 64 - 1) }
-        ensures tally { (all : List (JobResult S)) → IsTally all self → length all + length block.now.results < 2 ^ 64
-            → IsTally (all ++ block.now.results) result }
+    /// Of one job more.
+    pub fn with<S: Stream>(self, one: &JobResult<S>) -> Tally
+        ensures { (all : List (JobResult S)) → IsTally all self → length all + 1 < 2 ^ 64 → IsTally (all ++ one.now ∷ []) result }
     {
-        let results = block.results.as_slice();
-        let jobs = results.len() as u64;
+        let is_unexplained = is_unexplained(one);
         Tally {
-            jobs: self.jobs.saturating_add(jobs),
-            unexplained: self.unexplained.saturating_add(count_unexplained(results)),
-            first: self.first.or(first_unexplained(results)),
-            status: self.status.joined(status_of(report_status(block))),
+            jobs: self.jobs.saturating_add(1),
+            unexplained: self.unexplained.saturating_add(u64::from(is_unexplained)),
+            first: self.first.or(is_unexplained.then_some(one.job)),
+            status: self.status.joined(status_of(job_status(&one.outcome))),
         }
     }
 }
 
-// How many of the jobs are unexplained.
-fn count_unexplained<S: Stream>(results: &[JobResult<S>]) -> u64
-    ensures { result ≡ unexplained_of results.now }
+/// Whether the job is unexplained.
+pub fn is_unexplained<S: Stream>(one: &JobResult<S>) -> bool
+    ensures { result ≡ answers.is_unexplained one.now }
 {
-    let mut count = 0;
-    'jobs: for one in results {
-        if is_unexplained(one) {
-            count += 1;
-        }
+    match Standing::of(&one.outcome) {
+        Standing::Unexplained => true,
+        Standing::Explained | Standing::Other => false,
     }
-    count
+}
+
+// The exit status of this number.
+fn status_of(number: u8) -> Status
+    requires { answers.IsReportStatus number }
+    ensures { status_number result ≡ number }
+{
+    match number {
+        0 => Status::Success,
+        1 => Status::Unexplained,
+        _ => Status::NoAnswer,
+    }
 }

@@ -12,7 +12,6 @@ pub use Rattle.mc_code.specs.Standing
 pub use Rattle.mc_sound.specs.Faults as CodeFaults
 pub use Rattle.mc_sound.specs.Flags
 pub use Rattle.mc_model.specs.Notes
-pub use Rattle.mc_model.specs.Words
 pub mod Logs
 pub mod Worlds
 pub mod Steps

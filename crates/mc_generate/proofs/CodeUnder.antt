@@ -10,7 +10,7 @@ use Rattle.mc_script.specs.declared.step.Step.TheVariants as step
 use Rattle.mc_script.specs.Script as script
 use Rattle.mc_script.specs.WellFormed as formed
 use Rattle.mc_code.specs.Code as code
-use Rattle.mc_code.specs.ScriptRuns.{clearing_steps}
+use Rattle.mc_assembler.specs.ScriptRuns.{clearing_steps}
 use Rattle.mc_generate.specs.CodesUnder.{CodesFollowScripts, ScriptsStayScripts, RequestsDifferByKeys}
 use Rattle.mc_generate.specs.CodesUnder.{keys_under, budget_under, section_under, code_section_under, code_under}
 use Rattle.mc_generate.specs.{CodesUnder.added_bytes, CodesUnder.request_under, ImageFronts.IsSmall}

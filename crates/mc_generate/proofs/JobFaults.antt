@@ -3,7 +3,8 @@ use Rattle.std.proofs.Common.{◌≡◌, ℕ, Some, None, List, [], inl, inr, Re
 use Rattle.std.proofs.lemmas.List.Quantifiers.{position-Some}
 use Rattle.std.specs.{Prelude.Option, List.position}
 use Rattle.mc_protocol.specs.Lines.{Word}
-use Rattle.mc_code.specs.{Code.Code, Layout.code_of}
+use Rattle.mc_code.specs.{Code.Code}
+use Rattle.mc_assembler.specs.Layout.{code_of}
 use Rattle.mc_sound.specs.Checked.{Checked}
 use Rattle.mc_generate.specs.JobCodes.{code_for, fault_of, HasLongKey, IsJobFault}
 use Rattle.mc_generate.specs.{Generated.generated, Generated.names_of, CodesUnder.code_under, CodesUnder.IsPutFault, Refusals.HasFault, Refusals.IsRefused}

@@ -1,7 +1,8 @@
 -- What a refusal of the code of a generated script tells.
 use Rattle.std.proofs.Common.{◌≡◌, inl, inr, Result, Ok, Err, IfErr, refl, ap, subst}
 use Rattle.mc_script.specs.Script.{Script}
-use Rattle.mc_code.specs.{Code.Code, Layout.code_of}
+use Rattle.mc_code.specs.{Code.Code}
+use Rattle.mc_assembler.specs.Layout.{code_of}
 use Rattle.mc_sound.specs.Checked.{Checked}
 use Rattle.mc_verify.specs.{Refusals.IsRefusalOf, declared.refusal.Refusal.Refusal}
 use Rattle.mc_sound.specs.declared.refusal_kind.RefusalKind.TheVariants as kind

@@ -5,7 +5,8 @@ use Rattle.mc_protocol.specs.{Lines.Word, declared.limits.TheConstants.REQUEST_B
 use Rattle.mc_script.specs.{declared.section.Budget.Budget, WellFormed.IsScript}
 use Rattle.mc_script.specs.Script as script
 use Rattle.mc_code.specs.Code as code
-use Rattle.mc_code.specs.{Layout.code_of, Requests.IsRequest, declared.instr.Call.Call}
+use Rattle.mc_code.specs.{Requests.IsRequest, declared.instr.Call.Call}
+use Rattle.mc_assembler.specs.Layout.{code_of}
 use Rattle.mc_settings.specs.Namespaces.{is_namespace, key_under, is_too_long, AreShort}
 use Rattle.mc_generate.specs.declared.naming.PutFault.{PutFault}
 use Rattle.mc_generate.specs.declared.naming.PutFault.TheVariants as fault

@@ -1,7 +1,8 @@
 -- The code of a job under the name of its campaign, and why there may be none.
 use Rattle.std.specs.Prelude.{◌⊎◌, ℕ, ◌+◌, ◌≤◌, ◌<◌, Option, Some, None}
 use Rattle.mc_protocol.specs.Lines.{Word}
-use Rattle.mc_code.specs.{Code.Code, Layout.code_of}
+use Rattle.mc_code.specs.{Code.Code}
+use Rattle.mc_assembler.specs.Layout.{code_of}
 use Rattle.mc_settings.specs.{JobKeys.keys_of, Namespaces.AreShort}
 use Rattle.mc_generate.specs.{Generated.generated, CodesUnder.code_under, Refusals.HasFault, Refusals.IsRefused}
 use Rattle.mc_generate.specs.{declared.fault.GenFault.GenFault, declared.fault.JobFault.JobFault}

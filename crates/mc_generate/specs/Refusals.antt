@@ -2,8 +2,9 @@
 use Rattle.std.specs.Prelude.{◌≢◌, ◌⊎◌, ℕ}
 use Rattle.mc_protocol.specs.declared.actor.Actor.{Actor}
 use Rattle.mc_script.specs.Script.{Script}
-use Rattle.mc_code.specs.{Code.Code, Layout.code_of, Layout.IsExceeded, declared.fault.AsmFault.AsmFault}
-use Rattle.mc_code.specs.declared.fault.AsmFault.TheVariants as asm
+use Rattle.mc_code.specs.{Code.Code}
+use Rattle.mc_assembler.specs.{Layout.code_of, Layout.IsExceeded, declared.fault.AsmFault.AsmFault}
+use Rattle.mc_assembler.specs.declared.fault.AsmFault.TheVariants as asm
 use Rattle.mc_sound.specs.{Faults.IsFault, declared.refusal_kind.RefusalKind.RefusalKind}
 use Rattle.mc_generate.specs.declared.fault.GenFault.{GenFault}
 use Rattle.mc_generate.specs.declared.fault.GenFault.TheVariants as fault

@@ -2,7 +2,8 @@
 use Rattle.std.specs.Prelude.{◌≡◌, ◌⊎◌, Bool, true, false, Some, List, [], ◌∷◌, map, length, take}
 use Rattle.mc_protocol.specs.declared.actor.Actor.{Actor}
 use Rattle.mc_script.specs.{declared.section.Label.Label, declared.step.Step.Step, Script.Section, Script.Script, Script.section_of}
-use Rattle.mc_code.specs.{Code.IsCode, Layout.code_of}
+use Rattle.mc_code.specs.{Code.IsCode}
+use Rattle.mc_assembler.specs.Layout.{code_of}
 use Rattle.mc_sound.specs.Faults.{IsSound}
 use Rattle.mc_generate.specs.declared.shrinker.Shrinker.{Shrinker}
 

@@ -1,10 +1,10 @@
 //! Which scripts may run.
 
 ghost use Rattle.std.specs.Prelude.{◌≡◌, IfOk, IfSome};
-ghost use Rattle.mc_code.specs.Layout.{code_of};
+ghost use Rattle.mc_assembler.specs.Layout.{code_of};
 ghost use Rattle.mc_generate.specs.Shrunk as spec;
 
-use mc_code::{AsmFault, assemble};
+use mc_assembler::{AsmFault, assemble};
 use mc_protocol::OutOfMemory;
 use mc_script::Script;
 use mc_verify::{Checked, RefusalKind, verify};

@@ -1,11 +1,12 @@
 //! The code of generated scripts.
 ghost use Rattle.std.specs.Prelude.{◌≡◌, IfErr, IfOk};
-ghost use Rattle.mc_code.specs.Layout.{code_of};
+ghost use Rattle.mc_assembler.specs.Layout.{code_of};
 ghost use Rattle.mc_generate.specs.{Generated.generated, Refusals.HasFault, Refusals.IsRefused, Refusals.IsTooLarge};
 
 use crate::GenFault;
 use crate::script::generate_script;
-use mc_code::{AsmFault, Code, assemble};
+use mc_assembler::{AsmFault, assemble};
+use mc_code::Code;
 use mc_script::Script;
 use mc_verify::{Checked, RefusalKind, verify};
 use std::alloc::Global;

@@ -1,7 +1,7 @@
 //! Shrinking: from a script with an unexplained run to a smaller one.
 ghost use Rattle.std.specs.Prelude.{◌≡◌, ◌≤◌, ◌<◌, ◌+◌, ◌⊎◌, None, Some, false, length, true, IfNone, IfOk, IfSome};
 ghost use Rattle.mc_protocol.specs.Sections as of;
-ghost use Rattle.mc_code.specs.Layout.{code_of};
+ghost use Rattle.mc_assembler.specs.Layout.{code_of};
 ghost use Rattle.mc_script.specs.Script as scripts;
 ghost use Rattle.mc_generate.specs.Shrunk as spec;
 ghost use Rattle.mc_generate.specs.Shrinking as shrinking;

@@ -6,10 +6,10 @@ use Rattle.mc_model.specs.declared.rules.HistoryKind.{HistoryKind}
 use Rattle.mc_history.specs.StepKinds as steps_kinds
 use Rattle.mc_history.specs.declared.steps_fault.StepsKind.{StepsKind}
 use Rattle.mc_script_text.specs.Kinds as script_kinds
-use Rattle.mc_code.specs.AsmKinds as asm_kinds
+use Rattle.mc_assembler.specs.AsmKinds as asm_kinds
 use Rattle.mc_image.specs.ImageKinds as image_kinds
-use Rattle.mc_code.specs.declared.fault.AsmFault.{AsmFault}
-use Rattle.mc_code.specs.declared.fault.AsmFault.TheVariants as asm_fault
+use Rattle.mc_assembler.specs.declared.fault.AsmFault.{AsmFault}
+use Rattle.mc_assembler.specs.declared.fault.AsmFault.TheVariants as asm_fault
 use Rattle.mc_sound.specs.LeastFaults as code_kinds
 use Rattle.mc_verify.specs.Refusals.{Refusal}
 use Rattle.mc_sound.specs.declared.refusal_kind.RefusalKind.{RefusalKind}

@@ -3,8 +3,8 @@
 use crate::sentence::{END_OF_TEXT, KEY, KEY_BYTE, NO_LENGTH, before_faulty_byte, begins_faultily};
 use crate::spot::Spot;
 use mc_history::{Expected, ExpectedInTimeline};
-use mc_model::ExpectedWord;
 use mc_protocol::{Verb, has_digits_alone, is_word};
+use mc_words::ExpectedWord;
 
 /// How many bytes of the word stand before what is at fault: the front of a key.
 pub fn fault_start(expected: Expected, word: &[u8]) -> usize {

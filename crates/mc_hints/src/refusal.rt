@@ -3,7 +3,7 @@ ghost use Rattle.std.specs.Prelude.{◌≡◌, ◌++◌, IfOk, OnOk, codes, flat
 ghost use Rattle.mc_hints.specs.Refusals as refusals;
 
 use crate::refused::{LoadFault, Refused};
-use mc_code::AsmFault;
+use mc_assembler::AsmFault;
 use mc_protocol::{Actor, Class, FaultKind, append_all};
 use mc_sound::RefusalKind;
 use std::alloc::{AllocError, Global};

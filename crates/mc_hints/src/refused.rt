@@ -1,6 +1,6 @@
 //! Why an input is refused: what its reader found, or what the verifier found of its code.
 
-use mc_code::AsmFault;
+use mc_assembler::AsmFault;
 use mc_history::{HistoryFault, StepsFault};
 use mc_image::ImageFault;
 use mc_script_text::ScriptFault;

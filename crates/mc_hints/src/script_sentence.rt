@@ -2,7 +2,7 @@
 
 use crate::sentence::{END_OF_TEXT, KEY, KEY_BYTE, NO_LENGTH, before_faulty_byte, begins_faultily};
 use crate::spot::Spot;
-use mc_code::AsmFault;
+use mc_assembler::AsmFault;
 use mc_protocol::{Actor, Verb, has_digits_alone, is_word};
 use mc_script_text::{Expected, Sort};
 

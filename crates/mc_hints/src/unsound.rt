@@ -5,7 +5,7 @@ use crate::sentence::Sentence;
 use crate::shown_run::{asking_step, label_on};
 use crate::spot::{Spot, line_at};
 use bstr::ByteSlice;
-use mc_code::step_at;
+use mc_assembler::step_at;
 use mc_protocol::{Actor, Class, Verb};
 use mc_script::{Argument, Budget, Script, Step, Template};
 use mc_script_text::{ScriptKind, StepLines, parse_lines};

@@ -6,8 +6,8 @@ use Rattle.mc_protocol.specs.declared.fault.Fault.{Fault}
 use Rattle.mc_protocol.specs.declared.fault.Fault.TheVariants as fault
 use Rattle.mc_protocol.proofs.{ActorWords.actor_is_not_end, FirstItems.head_is, FirstItems.rest_is}
 use Rattle.mc_protocol.specs.declared.event.Event.TheVariants as event
-use Rattle.mc_model.specs.Words.{SpellsReply}
-use Rattle.mc_model.proofs.ReplyWords.{one_reply}
+use Rattle.mc_words.specs.Words.{SpellsReply}
+use Rattle.mc_words.proofs.ReplyWords.{one_reply}
 use Rattle.mc_history.specs.{HistoryText.end_line, StepText.SpellsEvent, StepText.SpellsStep, StepReading.SpellsFault}
 use Rattle.mc_history.proofs.LineLemmas.{begin_is_not_reply}
 

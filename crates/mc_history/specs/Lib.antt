@@ -2,7 +2,7 @@
 pub use Rattle.mc_model.specs.History
 pub use Rattle.mc_model.specs.Notes
 pub use Rattle.mc_model.specs.Sections
-pub use Rattle.mc_model.specs.Words
+pub use Rattle.mc_words.specs.Words
 pub use Rattle.mc_protocol.specs.Decimals
 pub use Rattle.mc_protocol.specs.Faults
 pub use Rattle.mc_protocol.specs.Lines

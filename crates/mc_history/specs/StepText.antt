@@ -4,7 +4,7 @@ use Rattle.mc_protocol.specs.declared.{actor.Actor.Actor, event.Event.Event, lin
 use Rattle.mc_protocol.specs.{Decimals.SpellsNumber, Decimals.MAX_64, Lines.words_of_text, Lines.Word, Lines.Words}
 use Rattle.mc_protocol.specs.{Faults.fault_number, Spelling.SpellEach}
 use Rattle.mc_protocol.specs.declared.event.Event.TheVariants as event
-use Rattle.mc_model.specs.Words.{SpellsReply}
+use Rattle.mc_words.specs.Words.{SpellsReply}
 use Rattle.mc_history.specs.declared.step_text.TheConstants.{STEP_LIST_LIMIT}
 use Rattle.mc_history.specs.HistoryText.{SpellsLine, end_line}
 

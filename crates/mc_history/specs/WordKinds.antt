@@ -1,7 +1,8 @@
 -- The kind of a line that has a fault in its words.
-use Rattle.mc_model.specs.declared.{rules.HistoryKind.HistoryKind, words_fault.WordsKind.WordsKind}
+use Rattle.mc_model.specs.declared.{rules.HistoryKind.HistoryKind}
+use Rattle.mc_words.specs.declared.words_fault.WordsKind.{WordsKind}
 use Rattle.mc_model.specs.declared.rules.HistoryKind.TheVariants as history
-use Rattle.mc_model.specs.declared.words_fault.WordsKind.TheVariants as words
+use Rattle.mc_words.specs.declared.words_fault.WordsKind.TheVariants as words
 use Rattle.mc_history.specs.declared.steps_fault.StepsKind.{StepsKind}
 use Rattle.mc_history.specs.declared.steps_fault.StepsKind.TheVariants as steps
 

@@ -1,8 +1,8 @@
 //! Which word of a line can't be read, and what was expected in its place.
 ghost use Rattle.std.specs.Prelude.{◌≡◌, ◌+◌, ◌<◌, ◌^◌};
 
-use mc_model::{ExpectedWord, MisreadWord};
 use mc_protocol::Verb;
+use mc_words::{ExpectedWord, MisreadWord};
 
 /// What was expected in the place of a word of a text. Each variant is one thing that can be said about the word: that
 /// it is missing, that it is something else, that it is one too many, or that a rule of the text doesn't allow it.

@@ -10,7 +10,7 @@ use Rattle.mc_code.specs.States.{Tagged, nothing, State, initial_state, after_re
 use Rattle.mc_code.specs.{declared.instr.Call.Call, declared.instr.Instr.Instr, Calls.exchange_of, Calls.no_template, Calls.template_of, Code.Code, Code.IsCode}
 use Rattle.mc_code.specs.{Code.instructions_in, Paths.Slides, Paths.entry_of, Runs.Exchange, Runs.met_at, Standing.StandsAt, Standing.is_right, Standing.met_in}
 use Rattle.mc_code.specs.declared.instr.Instr.TheVariants as instr
-use Rattle.mc_code.proofs.{LookUps.some_is, RunLemmas.run_sends, RunLemmas.run_slides, StepFacts.fit_is_legal, Stopping.StopsAt, Stopping.one_stop}
+use Rattle.mc_code.proofs.{LookUps.some_is, RunLemmas.run_sends, RunLemmas.run_slides, RunLemmas.fit_is_legal, Stopping.StopsAt, Stopping.one_stop}
 use Rattle.mc_sound.specs.Faults.{IsSound}
 use Rattle.mc_sound.proofs.{Right.sound_right, Right.sound_structured, RunLengths.begins_length, RunLengths.run_keeps_length, Structured.structured_slides}
 use Rattle.mc_sound.proofs.{Structured.structured_stands, Structured.structured_template, Structured.structured_variable}

@@ -3,14 +3,6 @@ pub mod Changes
 pub mod Effects
 pub mod Acts
 pub mod Choices
-pub mod Escaped
-pub mod Readings
-pub mod BodyWords
-pub mod FieldWords
-pub mod RequestWords
-pub mod ReplyWords
-pub mod PrintedWords
-pub mod WholeWords
 pub mod Added
 pub mod Keys
 pub mod Turns

@@ -13,15 +13,10 @@ pub mod ActLaws
 pub mod Decide
 pub mod NumeralLaws
 pub mod NumeralReading
-pub mod Words
-pub mod Misreadings
 pub mod Sections
 pub mod History
 pub mod HistoryLaws
 pub mod Notes
 pub mod Kinds
-pub mod WordLaws
 -- What private contracts cite.
-pub mod Reading
-pub mod Printing
 pub mod Next

@@ -1,8 +1,8 @@
 //! Requests and replies in the words of histories, with long bodies cut.
 
 use crate::rows::Row;
-use mc_model::{print_reply_words, print_request_words};
 use mc_protocol::{OutOfMemory, Reply, Request};
+use mc_words::{print_reply_words, print_request_words};
 use std::alloc::Global;
 
 /// Stands in place of what is cut off a body.

@@ -1,7 +1,7 @@
 //! The lines of the text that is written.
 use itoa::Buffer;
-use mc_model::{print_reply_words, print_request_words};
 use mc_protocol::{Bytes, OutOfMemory, Reply, Request, append_all};
+use mc_words::{print_reply_words, print_request_words};
 use std::alloc::Global;
 
 /// The digits of a byte in base 16.

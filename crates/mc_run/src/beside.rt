@@ -59,7 +59,7 @@ fn lay_table(
     let book = Book::sharing(alloc, Arc::try_clone(checked)?)?;
     let table = Table {
         book: Mutex::new(Notebook::new(book)),
-        meeting: Meeting::new(meet),
+        meeting: Meeting::over_desk(meet),
     };
     Ok(Arc::new(alloc, table)?)
 }

@@ -2,7 +2,7 @@
 //!
 //! No proof rests on what comes over it: a run whose lanes don't agree with its book isn't judged.
 
-use crate::meeting::{Meeting, NANOSECONDS_OF_TURN};
+use crate::meeting::{Meeting, NANOSECONDS_OF_TURN, touch_stack};
 use crate::notebook::Notebook;
 use crate::section::{Part, run_section};
 use crate::{Branch, Gate, RunError};
@@ -138,6 +138,7 @@ impl<S: Stream> Second<S> {
             lanes,
             turns,
         } = self;
+        touch_stack(turns as usize);
         'tasks: for _ in rt.forever() {
             look(&tasks, turns);
             let Ok(given) = tasks.recv(rt) else {

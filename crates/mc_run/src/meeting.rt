@@ -6,9 +6,12 @@ use std::sync::{Condvar, Mutex, Wait};
 use std::thread::Parker;
 use std::time::Duration;
 
-/// How often a branch looks whether the other one is as far: some 50 microseconds, which is two exchanges with a server on the same
-/// machine, or what it takes to wake a thread.
+/// How often a branch with a later request looks whether the other one is as far: some 50 microseconds, which is two exchanges with a
+/// server on the same machine.
 const TURNS: u32 = 7_500;
+
+/// How often the branch that comes second to the first meeting looks whether the other one runs again: some 2 microseconds.
+const TURNS_UNTIL_AWAKE: u32 = 300;
 
 /// How far a branch is that has its first request ready.
 const READY: u64 = 1;
@@ -22,13 +25,15 @@ pub(crate) const NANOSECONDS_OF_TURN: u32 = 7;
 /// A branch that is late by more than this sleeps: a sleep of less would take that long.
 const SPUN_NANOSECONDS: u32 = 100_000;
 
-/// How many bytes of its stack a branch writes to before it waits: more than a call takes.
+/// How many bytes of its stack a new thread writes to before its first meeting: more than a call takes.
 const STACK_TOUCHED: usize = 32_768;
 
 /// A meeting of both branches. No proof rests on it: without it a run would be as right, and would find fewer races.
 #[derive(Drop)]
 pub(crate) struct Meeting {
     meet: Meet,
+    /// Whether the branch that is apart runs on a thread that was made for this run.
+    is_beside_new: bool,
     /// How far each branch is; the greatest number once it has no more requests.
     a_at: AtomicU64,
     b_at: AtomicU64,
@@ -46,10 +51,20 @@ pub(crate) struct Seat<'m> {
 }
 
 impl Meeting {
-    /// A meeting to which nobody has come.
-    pub(crate) fn new(meet: Meet) -> Meeting {
+    /// A meeting to which nobody has come, of the caller's thread and one that is made for this run.
+    pub(crate) fn beside_new_thread(meet: Meet) -> Meeting {
+        Meeting::new(meet, true)
+    }
+
+    /// The same of the caller's thread and one that is kept.
+    pub(crate) fn over_desk(meet: Meet) -> Meeting {
+        Meeting::new(meet, false)
+    }
+
+    fn new(meet: Meet, is_beside_new: bool) -> Meeting {
         Meeting {
             meet,
+            is_beside_new,
             a_at: AtomicU64::new(0),
             b_at: AtomicU64::new(0),
             lock: Mutex::new(()),
@@ -68,19 +83,19 @@ impl Meeting {
 
 impl Seat<'_> {
     /// Comes with the branch's request of this index, counted from 0, which is ready; and waits for the other branch as the manner
-    /// of the meeting says, and after that once more where this branch is late.
+    /// of the meeting says, and after that once more if this branch is late.
     fn come<R: Wait>(&self, rt: &R, index: u32) {
         match (self.meeting.meet.manner, index) {
             (Manner::Never, _) => {}
             (Manner::First | Manner::Each, 0) => {
                 self.wait(rt);
                 // The kernel needs some time to wake the branch that came first, and the other one would go ahead meanwhile.
-                let _ = self.look(AWAKE);
+                let _ = self.look(AWAKE, TURNS_UNTIL_AWAKE);
                 self.wait_late(rt);
             }
             (Manner::First, _) => {}
             (Manner::Each, _) => {
-                let _ = self.look(AWAKE + u64::from(index));
+                let _ = self.look(AWAKE + u64::from(index), TURNS);
             }
         }
     }
@@ -101,16 +116,18 @@ impl Seat<'_> {
         self.wake(rt);
     }
 
-    /// Waits until the other branch has come: it looks for a while, and sleeps only then. Within that time a new thread comes if a
-    /// processor is free for it, and to wake a branch that sleeps would take as long again. If none is free, the look costs a run 50
-    /// microseconds at most.
+    /// Waits until the other branch has come. It sleeps at once: a branch that looked would keep its processor from the server's thread
+    /// that has answered P, or from the other branch. The kernel would move these, and the server would take both requests far apart.
     fn wait<R: Wait>(&self, rt: &R) {
-        self.touch_new_stack();
+        if self.meeting.is_beside_new && self.meeting.meet.apart == self.branch {
+            // The calls of P wrote to the stack of the other thread.
+            touch_stack(self.other().load(Ordering::SeqCst) as usize);
+        }
         self.mine().store(READY, Ordering::SeqCst);
         if self.other().load(Ordering::SeqCst) >= READY {
             self.wake(rt);
-        } else if !self.look(READY) {
-            // The other branch came after this one had said that it did, if it came, and so it wakes it.
+        } else {
+            // The other branch comes after this one has said that it did, if it comes, and so it wakes it.
             self.sleep(rt);
         }
     }
@@ -132,7 +149,7 @@ impl Seat<'_> {
         self.meeting.came.notify_one();
     }
 
-    /// Waits, where this branch is the late one, as long as it is late. The other one goes on meanwhile, so that its request arrives
+    /// If this branch is the late one, waits as long as it is late. The other one goes on meanwhile, so that its request arrives
     /// first, and a race that opens later in a request than the other one's comes is met too.
     fn wait_late<R: Wait>(&self, rt: &R) {
         let Some(late) = self.meeting.meet.late else {
@@ -158,12 +175,12 @@ impl Seat<'_> {
         }
     }
 
-    /// Is this far, looks for a while whether the other branch is too, and answers whether it saw that.
-    fn look(&self, far: u64) -> bool {
+    /// Is this far, looks this often whether the other branch is too, and answers whether it saw that.
+    fn look(&self, far: u64, times: u32) -> bool {
         let other = self.other();
         self.mine().store(far, Ordering::SeqCst);
         let turns = AtomicU64::new(0);
-        'turns: for _ in 0..TURNS {
+        'turns: for _ in 0..times {
             if other.load(Ordering::SeqCst) >= far {
                 return true;
             }
@@ -171,27 +188,6 @@ impl Seat<'_> {
             turns.fetch_add(1, Ordering::SeqCst);
         }
         false
-    }
-
-    /// Writes to the stack of a branch that runs on a new thread. The calls of P, or those of a run before, wrote to that of the caller.
-    fn touch_new_stack(&self) {
-        if self.meeting.meet.apart == self.branch {
-            self.touch_stack();
-        }
-    }
-
-    /// Writes to as much of the stack as a call takes. The kernel adds the pages of a new thread's stack one by one, each when it is
-    /// first written to, and a branch for which it does so after the meeting comes late.
-    fn touch_stack(&self) {
-        let mut pages = [0u8; STACK_TOUCHED];
-        // no compiler knows these places, so none leaves the writing out
-        let [written, read] = [self.mine(), self.other()].map(|far| far.load(
-            Ordering::SeqCst,
-        ) as usize
-            % STACK_TOUCHED);
-        pages[written] = 1;
-        let found = AtomicU64::new(0);
-        found.store(u64::from(pages[read]), Ordering::SeqCst);
     }
 
     /// How far the branch is.
@@ -209,6 +205,16 @@ impl Seat<'_> {
             Branch::B => &self.meeting.a_at,
         }
     }
+}
+
+/// Writes to as much of the thread's stack as a call takes. The kernel adds the pages of a new thread's stack one by one, each when it
+/// is first written to, and a branch for which it does so after the meeting comes late. No compiler knows the number `any`, so none
+/// leaves the writing out.
+pub(crate) fn touch_stack(any: usize) {
+    let mut pages = [0u8; STACK_TOUCHED];
+    pages[any % STACK_TOUCHED] = 1;
+    let found = AtomicU64::new(0);
+    found.store(u64::from(pages[any / 2 % STACK_TOUCHED]), Ordering::SeqCst);
 }
 
 /// Comes with the request of this index, unless its begin is noted first.

@@ -101,7 +101,7 @@ fn run_branches<S: Stream + Send, G: Gate, R: Threads + Wait + Sync>(
         return Some(run_in_turn(rt, alloc, book, gate, lanes));
     }
     let (a, b) = lanes;
-    let meeting = Meeting::new(meet);
+    let meeting = Meeting::beside_new_thread(meet);
     let a = Part::new(Actor::A, a).with_seat(meeting.seat(Branch::A));
     let b = Part::new(Actor::B, b).with_seat(meeting.seat(Branch::B));
     match meet.apart {

@@ -1,9 +1,10 @@
 //! The reply from which on nothing explains a run, and what a correct server answers in its place.
 
 use crate::seen::Shown;
-use mc_model::{History, Note, print_reply_words, print_request_words};
+use mc_model::{History, Note};
 use mc_protocol::{Actor, OutOfMemory, Reply, Request, Verb};
 use mc_why::{Finding, Form};
+use mc_words::{print_reply_words, print_request_words};
 use std::alloc::Global;
 
 // Lines are broken to keep to these columns, as far as their words allow.

@@ -11,7 +11,7 @@ use crate::turns::{Turn, tell_plain};
 use crate::verbs::Unsupported;
 use crate::wide::wide_script;
 use mc_answers::{InputFault, Sink, verify_code};
-use mc_code::assemble;
+use mc_assembler::assemble;
 use mc_connect::Network;
 use mc_generate::generate_script;
 use mc_script::Script;

@@ -10,11 +10,12 @@ use Rattle.mc_protocol.specs.Decimals.{MAX_64, is_digit, are_digits}
 use Rattle.mc_protocol.specs.declared.reply.Reply.TheVariants as replies
 use Rattle.mc_protocol.specs.{Lines.Word, Lines.is_skipped, Legal.is_fit}
 use Rattle.mc_protocol.proofs.Decimals.{decimal-spells}
-use Rattle.mc_model.specs.Words.{request_words, reply_words, join_words}
-use Rattle.mc_model.specs.{declared.rules.HistoryKind.HistoryKind, WordLaws.is_whole, WordLaws.are_whole, History.has_words}
+use Rattle.mc_words.specs.Words.{request_words, reply_words, join_words}
+use Rattle.mc_model.specs.{declared.rules.HistoryKind.HistoryKind, History.has_words}
+use Rattle.mc_words.specs.{WordLaws.is_whole, WordLaws.are_whole}
 use Rattle.mc_model.specs.declared.rules.HistoryKind.TheVariants as kind
 use Rattle.mc_model.specs.declared.note.Note.TheVariants as note
-use Rattle.mc_model.proofs.WholeWords.{request-whole, reply-whole}
+use Rattle.mc_words.proofs.WholeWords.{request-whole, reply-whole}
 use Rattle.mc_history.specs.{HistoryText.end_line, PrintedHistory.line_text, PrintedParts.MayBeNoted, PrintedParts.NoteSpellsItself}
 use Rattle.mc_history.proofs.PrintedLines.{IsLine, counts_from, lines_fall_apart, lines_of_items}
 use Rattle.mc_history.proofs.PrintedHistory.{last_line}

@@ -3,7 +3,7 @@ use Rattle.std.specs.Prelude.{◌≡◌, ℕ, List, [], ◌∷◌, ◌++◌, map
 use Rattle.mc_protocol.specs.declared.lines.Separator.TheVariants.{Space}
 use Rattle.mc_protocol.specs.{Spelling.SpellEach, Lines.words_of_text, Lines.Words}
 use Rattle.mc_model.specs.declared.note.Note.TheVariants as note
-use Rattle.mc_model.specs.Words.{request_words, reply_words}
+use Rattle.mc_words.specs.Words.{request_words, reply_words}
 use Rattle.mc_history.specs.{HistoryText.SpellsNoted, HistoryText.header, HistoryText.end_line, PrintedHistory.lines_text}
 use Rattle.mc_timeline.specs.{Timelines.ClientNote, Rules.IsTimeline}
 

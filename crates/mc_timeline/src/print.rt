@@ -7,8 +7,9 @@ ghost use Rattle.mc_timeline.specs.PrintedNotes as part;
 
 use crate::timeline::Timeline;
 use itoa::Buffer;
-use mc_model::{Note, print_reply_words, print_request_words};
+use mc_model::Note;
 use mc_protocol::{OutOfMemory, append_all};
+use mc_words::{print_reply_words, print_request_words};
 
 /// Appends the text of a timeline: `history 3`, a line for each note, and `end`. Want of memory leaves `out` as it was.
 pub fn print_timeline(timeline: &Timeline, out: &mut Vec<u8>) -> Result<(), OutOfMemory>

@@ -5,9 +5,10 @@ ghost use Rattle.mc_timeline.specs.declared.limits.TheConstants.{CLIENTS_LIMIT};
 
 use itoa::Buffer;
 use mc_history::{Expected, ExpectedInTimeline, HistoryFault, Misread};
-use mc_model::{HistoryKind, WordsKind, read_number};
+use mc_model::HistoryKind;
 use mc_protocol::{WordLine, has_digits_alone, is_word};
 use mc_timeline::CLIENTS_LIMIT;
+use mc_words::{WordsKind, read_number};
 
 /// Reads the first word of a line as the number of a client. `expected` is what may stand there. It takes no memory.
 pub(crate) fn read_client(line: &WordLine, expected: ExpectedInTimeline) -> Result<u8, HistoryFault>

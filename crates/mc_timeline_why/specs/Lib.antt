@@ -2,7 +2,7 @@
 pub use Rattle.mc_history.specs.PrintedHistory
 pub use Rattle.mc_linearize.specs.Claims
 pub use Rattle.mc_linearize.specs.Verdicts
-pub use Rattle.mc_model.specs.Words
+pub use Rattle.mc_words.specs.Words
 pub use Rattle.mc_timeline.specs.Timelines
 pub use Rattle.mc_timeline.specs.TimelineText
 pub mod Fronts

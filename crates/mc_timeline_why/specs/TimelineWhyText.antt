@@ -4,7 +4,7 @@ use Rattle.std.specs.Prelude.{List, [], ◌∷◌, ◌++◌, codes, decimal, dro
 use Rattle.std.specs.List.{flat_map}
 use Rattle.mc_protocol.specs.{Lines.Words, declared.request.Request.Request, declared.reply.Reply.Reply}
 use Rattle.mc_model.specs.declared.note.Note.TheVariants as note
-use Rattle.mc_model.specs.Words.{join_words, request_words}
+use Rattle.mc_words.specs.Words.{join_words, request_words}
 use Rattle.mc_history.specs.{HistoryText.marks_of, PrintedHistory.answer_words, PrintedHistory.line_text, PrintedHistory.start_words}
 use Rattle.mc_timeline.specs.{Timelines.ClientNote, TimelineText.client_note_words}
 use Rattle.mc_linearize.specs.{declared.explanation.TimelineMove.TimelineMove, Claims.TimelineClaim}

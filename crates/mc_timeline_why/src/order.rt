@@ -1,7 +1,7 @@
 //! Prints what explains the requests on a key before a place, with the request and the reply of each move.
 ghost use Rattle.std.specs.Prelude.{◌≡◌, ◌<◌, ◌++◌, drop, length, OnOk, IfSome, codes};
 ghost use Rattle.std.specs.{List.flat_map, Option.option_copied};
-ghost use Rattle.mc_model.specs.Words.{join_words};
+ghost use Rattle.mc_words.specs.Words.{join_words};
 ghost use Rattle.mc_history.specs.PrintedHistory.{answer_words};
 ghost use Rattle.mc_timeline_why.specs.Cursors.{begins_for, places_in};
 ghost use Rattle.mc_timeline_why.specs.TimelineWhyText as texts;
@@ -9,9 +9,10 @@ ghost use Rattle.mc_timeline_why.specs.TimelineWhyText as texts;
 use itoa::Buffer;
 use mc_history::marks_text;
 use mc_linearize::{TimelineExplanation, TimelineMove};
-use mc_model::{Note, print_reply_words, print_request_words};
+use mc_model::Note;
 use mc_protocol::{Bytes, OutOfMemory, Reply, Request, append_all, is_word};
 use mc_timeline::Timeline;
+use mc_words::{print_reply_words, print_request_words};
 
 /// Appends the items at the start and the moves. `before` has the requests that they explain.
 pub(crate) fn print_explained(

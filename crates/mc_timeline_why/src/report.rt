@@ -1,7 +1,7 @@
 //! Prints why nothing explains the requests on a key.
 ghost use Rattle.std.specs.Prelude.{◌≡◌, ◌++◌, codes, decimal, slice_get, OnErr, OnOk};
 ghost use Rattle.std.specs.List.{flat_map};
-ghost use Rattle.mc_model.specs.Words.{join_words};
+ghost use Rattle.mc_words.specs.Words.{join_words};
 ghost use Rattle.mc_timeline.specs.TimelineText.{client_note_words};
 ghost use Rattle.mc_timeline_why.specs.Fronts.{front};
 ghost use Rattle.mc_timeline_why.specs.TimelineWhyText as texts;
@@ -10,9 +10,10 @@ use crate::cutting::cut_timeline;
 use crate::order::print_explained;
 use crate::{TimelineCause, TimelineFinding};
 use itoa::Buffer;
-use mc_model::{Note, print_reply_words, print_request_words};
+use mc_model::Note;
 use mc_protocol::{Bytes, OutOfMemory, append_all};
 use mc_timeline::{Timeline, restrict};
+use mc_words::{print_reply_words, print_request_words};
 
 /// Appends what is found of the requests on the key: the line `why`; what was noted at the place, with the number of its line, which the
 /// caller gives; what explains the requests before it; the numbers of the lines of `overlap`, which the caller gives; and `end`. Where a

@@ -14,7 +14,7 @@ pub use Rattle.mc_model.specs.Contents
 pub use Rattle.mc_model.specs.History
 pub use Rattle.mc_model.specs.Notes
 pub use Rattle.mc_model.specs.Sections
-pub use Rattle.mc_model.specs.Words
+pub use Rattle.mc_words.specs.Words
 pub mod Cuts
 pub mod Causes
 pub mod Answers

@@ -6,7 +6,7 @@ use Rattle.mc_protocol.specs.{Lines.Words, Words.actor_word, Words.verb_word, de
 use Rattle.mc_protocol.specs.{declared.request.Request.Request, declared.request.Verb.Verb, declared.sections.Sections.Sections}
 use Rattle.mc_protocol.specs.declared.actor.Actor.TheVariants as actor
 use Rattle.mc_protocol.specs.declared.reply.Reply.TheVariants as replies
-use Rattle.mc_model.specs.Words.{join_words, reply_words, request_words}
+use Rattle.mc_words.specs.Words.{join_words, reply_words, request_words}
 use Rattle.mc_model.specs.{declared.sent.Sent.Sent, Notes.History, Notes.Noted, Sections.section_of}
 use Rattle.mc_model.specs.Sections as sent
 use Rattle.mc_history.specs.PrintedHistory.{answer_words, line_text, move_words, note_words, start_words, turn_words}

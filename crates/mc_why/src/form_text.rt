@@ -4,8 +4,8 @@ ghost use Rattle.std.specs.List.{flat_map};
 ghost use Rattle.mc_why.specs.WhyText as texts;
 
 use crate::Form;
-use mc_model::print_reply_words;
 use mc_protocol::{Bytes, OutOfMemory, Reply};
+use mc_words::print_reply_words;
 use std::alloc::Global;
 
 /// Appends a line for each form.

@@ -1,7 +1,7 @@
 //! Prints what explains the part of a history before a place, with the request and the reply of each move.
 ghost use Rattle.std.specs.Prelude.{◌≡◌, ◌++◌, ◌∷◌, [], Some, OnOk, codes};
 ghost use Rattle.std.specs.List.{flat_map};
-ghost use Rattle.mc_model.specs.Words.{join_words};
+ghost use Rattle.mc_words.specs.Words.{join_words};
 ghost use Rattle.mc_history.specs.{HistoryText.marks_of, PrintedHistory.move_words};
 ghost use Rattle.mc_why.specs.Answers.{next_after};
 ghost use Rattle.mc_why.specs.WhyText as texts;
@@ -10,8 +10,9 @@ use crate::moved::count_moves;
 use crate::report::print_received;
 use itoa::Buffer;
 use mc_history::{Explanation, Move};
-use mc_model::{Choice, History, Sent, print_request_words};
+use mc_model::{Choice, History, Sent};
 use mc_protocol::{Actor, Bytes, OutOfMemory, append_all, is_word};
+use mc_words::print_request_words;
 
 /// Appends the items at the start and the moves. `before` is what stands before the place.
 pub(crate) fn print_explained(

@@ -2,4 +2,4 @@
 
 /// The SHA-256 of all sources, definitions and proofs but of this file.
 pub const SOURCES: &[u8] =
-    b"sources 369c0196f6c0e0cb72d4e79c80cdcb4ac170cb237c1d9720bfeb00d162f7773a\n";
+    b"sources 9de67cf6b952cfbba5c6f989c570223c9b7ecdf7b96369de96c463b314683105\n";

@@ -2,7 +2,7 @@
 
 use crate::driven::{SCRIPT, STEPS_OF_P};
 use mc_answers::run_status;
-use mc_code::assemble;
+use mc_assembler::assemble;
 use mc_history::parse_steps;
 use mc_script_text::parse;
 use mc_trial::trial;

@@ -1,8 +1,6 @@
-//! Tests of `mc_campaign`: what campaigns report, how the branches of their jobs meet, and what a collector makes of its messages.
+//! Tests of `mc_campaign`: what campaigns report, how the branches of their jobs meet, and in which order results are kept.
 #![tactic(auto)]
 
-#[cfg(test)]
-mod collector_tests;
 #[cfg(test)]
 mod connectors;
 #[cfg(test)]
@@ -14,6 +12,8 @@ mod memory;
 #[cfg(test)]
 mod named_tests;
 #[cfg(test)]
+mod order_tests;
+#[cfg(test)]
 mod report_tests;
 #[cfg(test)]
 mod store_runs;
@@ -21,7 +21,5 @@ mod store_runs;
 mod store_stream;
 #[cfg(test)]
 mod texts;
-#[cfg(test)]
-mod watching;
 #[cfg(test)]
 mod worker_tests;

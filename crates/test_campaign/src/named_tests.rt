@@ -3,13 +3,11 @@
 ghost use Rattle.std.specs.Prelude.{◌≡◌};
 
 use crate::connectors::Stores;
-use crate::store_runs::{collected_text, outcome_of};
+use crate::store_runs::outcome_of;
 use crate::store_stream::StoreStream;
-use crate::watching::Seen;
 use mc_campaign::{Campaign, JobOutcome};
 use mc_generate::JobFault;
 use mc_lane::Wire;
-use mc_protocol::OutOfMemory;
 use mc_server::Shared;
 use mc_settings::{Meeting, Namespace};
 use std::alloc::Global;
@@ -69,76 +67,19 @@ fn fault_over<R: Threads + Wait + Sync>(
     connector: &Stores<'_, R>,
 ) -> Result<JobFault, Fail> {
     let name = named(LONG)?;
-    fault_of(&outcome_of(rt, alloc, connector, campaign(Some(&name), 0, 11), 10))
+    let outcome = outcome_of(rt, alloc, connector, campaign(Some(&name), 10, 1))?;
+    fault_of(&outcome)
 }
 
 /// Why a job wasn't made.
-fn fault_of<R: Wait>(outcome: &JobOutcome<Wire<StoreStream<'_, R>>>) -> Result<JobFault, Fail> {
+fn fault_of<R: Wait>(
+    outcome: &Option<JobOutcome<Wire<StoreStream<'_, R>>>>,
+) -> Result<JobFault, Fail> {
     match outcome {
-        JobOutcome::NotMade(JobFault::OutOfMemory) => {
+        Some(JobOutcome::NotMade(JobFault::OutOfMemory)) => {
             Err(Fail::new("there was no memory for the job"))
         }
-        JobOutcome::NotMade(fault) => Ok(*fault),
+        Some(JobOutcome::NotMade(fault)) => Ok(*fault),
         _ => Err(Fail::new("the job was made")),
     }
-}
-
-/// The name of a campaign of one job, that of a message of this job which comes to it, and how many connections are made until there is
-/// a report.
-static MESSAGES: [(Option<&str>, Option<&str>, u64); 5] = [
-    (None, None, 3),
-    (Some("ci7"), Some("ci7"), 3),
-    (Some("ci7"), Some("ci8"), 6),
-    (Some("ci7"), None, 6),
-    (None, Some("ci7"), 6),
-];
-
-#[test]
-fn message_of_another_name_is_of_no_job(rt: HostRuntime) -> Result<(), Fail> {
-    assert_eq!(rt; first_odd(&rt, rt.alloc())?, None);
-    Ok(())
-}
-
-/// The first row of messages that isn't met.
-fn first_odd<R: Threads + Wait + Sync>(rt: &R, alloc: Global) -> Result<Option<usize>, Fail> {
-    for (index, (name, other, connections)) in MESSAGES.iter().enumerate() {
-        if connections_under(rt, alloc, *name, *other)? != *connections {
-            return Ok(Some(index));
-        }
-    }
-    Ok(None)
-}
-
-/// How many connections are made until there is a report on job 0 under a name, where a message of it comes that was run under another.
-fn connections_under<R: Threads + Wait + Sync>(
-    rt: &R,
-    alloc: Global,
-    word: Option<&str>,
-    other: Option<&str>,
-) -> Result<u64, Fail> {
-    let name = word.map(named).transpose()?;
-    let other = other.map(named).transpose()?;
-    Ok(connections_after(rt, alloc, name.as_ref(), other.as_ref())?)
-}
-
-fn connections_after<R: Threads + Wait + Sync>(
-    rt: &R,
-    alloc: Global,
-    name: Option<&Namespace<'_>>,
-    other: Option<&Namespace<'_>>,
-) -> Result<u64, OutOfMemory> {
-    let store = Shared::new(alloc)?;
-    let connector = Stores::honest(rt, alloc, &store);
-    let mut watcher = Seen::new(alloc);
-    let campaign = campaign(name, 0, 1);
-    collected_text(
-        rt,
-        alloc,
-        &connector,
-        campaign,
-        other,
-        &[(1, 0)],
-        &mut watcher,
-    )?;
-    Ok(connector.count())
 }

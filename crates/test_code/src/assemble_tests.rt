@@ -2,7 +2,8 @@
 
 use crate::images::{COUNTER_IMAGE, image_after};
 use crate::memory::again;
-use mc_code::{Code, assemble};
+use mc_assembler::assemble;
+use mc_code::Code;
 use mc_script::Script;
 use mc_script_text::parse;
 use std::alloc::Global;

@@ -1,6 +1,6 @@
 //! Calls that find no memory.
 
-use mc_code::AsmFault;
+use mc_assembler::AsmFault;
 use mc_image::{ImageFault, ImageKind};
 use mc_protocol::OutOfMemory;
 

@@ -1,6 +1,6 @@
 //! To which step of a script an instruction of its code belongs.
 
-use mc_code::{assemble, step_at};
+use mc_assembler::{assemble, step_at};
 use mc_protocol::Actor;
 use mc_script_text::parse;
 use std::alloc::Global;

@@ -146,13 +146,13 @@ static REPEATS: [(Answers, bool, &str, &str, ([u32; 3], usize)); 5] = [
         "end\nruns 3 explained 3 unexplained 0 other 0 overlapped 0 failed 0\n",
         ([3, 3, 3], 9),
     ),
-    // The second run is unexplained, so the third one has new connections.
+    // The second run is unexplained, and its connections serve the third one, but for those that were ended.
     (
         &[b"6\r\n", b"7\r\n"],
         false,
         "run 2 of 3\nP done\n",
         "end\nruns 3 explained 2 unexplained 1 other 0 overlapped 0 failed 0\n",
-        ([2, 2, 3], 6),
+        ([1, 2, 3], 3),
     ),
 ];
 

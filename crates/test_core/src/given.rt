@@ -3,7 +3,8 @@
 ghost use Rattle.std.specs.Prelude.{IfOk};
 ghost use Rattle.mc_core.specs.Held.{IsHeldBy};
 
-use mc_code::{Code, assemble};
+use mc_assembler::assemble;
+use mc_code::Code;
 use mc_core::{Ending, Event, World, drive};
 use mc_protocol::{Actor, Fault, OutOfMemory, Reply};
 use mc_script_text::parse;

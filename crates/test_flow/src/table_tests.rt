@@ -5,7 +5,8 @@ ghost use Rattle.mc_code.specs.Code.{IsCode};
 ghost use Rattle.mc_flow.specs.{CostTables.AreCostTables, FlagTables.AreFlagTables, RunKinds.AreKindTables};
 ghost use Rattle.mc_sound.specs.Structure.{IsStructured};
 
-use mc_code::{Code, Kind, assemble};
+use mc_assembler::assemble;
+use mc_code::{Code, Kind};
 use mc_flow::{CostTables, FlagTables, KindTables, all_flag_tables, all_kind_tables, kind_index};
 use mc_protocol::{Actor, OutOfMemory, Sections};
 use mc_script_text::parse;

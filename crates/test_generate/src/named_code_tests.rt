@@ -1,7 +1,8 @@
 //! Code under a name. What is sent then is shown by `cases/run/names.cases`.
 
 use crate::memory::again;
-use mc_code::{Code, assemble};
+use mc_assembler::assemble;
+use mc_code::Code;
 use mc_generate::{PutFault, put_under};
 use mc_protocol::Actor;
 use mc_script::Budget;

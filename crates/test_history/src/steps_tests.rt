@@ -2,8 +2,8 @@
 
 use crate::memory::again;
 use mc_history::parse_steps;
-use mc_model::print_reply_words;
 use mc_protocol::{Actor, Event, Fault, OutOfMemory, Reply, append_all};
+use mc_words::print_reply_words;
 use std::alloc::Global;
 use std::test::Fail;
 

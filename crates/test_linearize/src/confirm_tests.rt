@@ -1,9 +1,10 @@
 //! Claims of explanations, right ones and wrong ones.
 use crate::notes::{Line, push_all};
 use mc_linearize::{TimelineExplanation, TimelineMove, confirm_timeline};
-use mc_model::{Choice, WordsFault};
+use mc_model::Choice;
 use mc_protocol::Bytes;
 use mc_timeline::TimelineBuilder;
+use mc_words::WordsFault;
 use std::alloc::Global;
 use std::test::Fail;
 

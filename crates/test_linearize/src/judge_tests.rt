@@ -2,9 +2,9 @@
 use crate::notes::push_all;
 use crate::rows::{CLEARED, ROWS};
 use mc_linearize::{KeyVerdict, judge_key};
-use mc_model::WordsFault;
 use mc_protocol::Bytes;
 use mc_timeline::{Timeline, TimelineBuilder};
+use mc_words::WordsFault;
 use std::alloc::Global;
 use std::test::Fail;
 

@@ -2,8 +2,8 @@
 use crate::notes::{Line, push_all};
 use crate::rows::{CLEARED, ROWS};
 use mc_linearize::{TimelineExplanation, TimelineVerdict, judge_timeline};
-use mc_model::WordsFault;
 use mc_timeline::TimelineBuilder;
+use mc_words::WordsFault;
 use std::alloc::Global;
 use std::test::Fail;
 

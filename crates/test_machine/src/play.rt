@@ -3,7 +3,8 @@ ghost use Rattle.std.specs.Prelude.{◌≡◌, true, None, IfOk};
 ghost use Rattle.mc_machine.specs.Machine as machines;
 
 use crate::given::Given;
-use mc_code::{Call, Code, assemble};
+use mc_assembler::assemble;
+use mc_code::{Call, Code};
 use mc_machine::Machine;
 use mc_protocol::{Actor, OutOfMemory, may_answer};
 use mc_script::VARIABLES_LIMIT;

@@ -2,8 +2,9 @@
 //! rows are cases of the program.
 use crate::lines::{bytes, reply_in, request_in};
 use crate::memory::again;
-use mc_model::{Cache, Choice, Item, WordsFault};
+use mc_model::{Cache, Choice, Item};
 use mc_protocol::{OutOfMemory, Reply, Request};
+use mc_words::WordsFault;
 use std::alloc::Global;
 use std::test::Fail;
 

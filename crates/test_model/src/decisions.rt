@@ -2,10 +2,11 @@
 use crate::lines::{bytes, reply_in, request_in};
 use crate::memory::again;
 use mc_model::{
-    Answer, Cache, Change, Choice, Decision, Found, Item, Numeral, Reading, WordsFault, decide,
-    make_version, numeral_of, reply_with,
+    Answer, Cache, Change, Choice, Decision, Found, Item, Numeral, Reading, decide, make_version,
+    numeral_of, reply_with,
 };
 use mc_protocol::{OutOfMemory, Reply, Request, Verb};
+use mc_words::WordsFault;
 use std::alloc::Global;
 use std::test::Fail;
 

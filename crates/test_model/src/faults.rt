@@ -1,7 +1,8 @@
 //! Faults of words that no line of a text has, and the texts of faults. `cases/model/misread-words.cases` and
 //! `cases/judge/why-refused.cases` have the others.
-use mc_model::{ExpectedWord, HistoryKind, MisreadWord, WordsFault, WordsKind, read_body};
+use mc_model::HistoryKind;
 use mc_protocol::OutOfMemory;
+use mc_words::{ExpectedWord, MisreadWord, WordsFault, WordsKind, read_body};
 use std::alloc::Global;
 use std::test::Fail;
 

@@ -1,8 +1,9 @@
 //! What makes a history. The rules themselves, and the faults of requests that make none, are cases of the program.
 use crate::lines::{reply_in, request_in};
 use crate::memory::again;
-use mc_model::{History, HistoryBuilder, HistoryKind, Sent, WordsFault};
+use mc_model::{History, HistoryBuilder, HistoryKind, Sent};
 use mc_protocol::{Actor, Verb};
+use mc_words::WordsFault;
 use std::alloc::Global;
 use std::test::Fail;
 

@@ -1,7 +1,7 @@
 //! Requests and replies that are written as the lines of a history have them.
 use crate::memory::again;
-use mc_model::{WordsFault, read_reply_words, read_request_words};
 use mc_protocol::{Bytes, OutOfMemory, Reply, Request, Separator, words_in};
+use mc_words::{WordsFault, read_reply_words, read_request_words};
 use std::alloc::Global;
 
 pub(crate) fn bytes(alloc: Global, text: &str) -> Result<Bytes, OutOfMemory> {

@@ -1,7 +1,7 @@
 //! Calls that find no memory.
 
-use mc_model::{WordsFault, WordsKind};
 use mc_protocol::OutOfMemory;
+use mc_words::{WordsFault, WordsKind};
 
 /// Why a call failed.
 pub(crate) trait Failure {

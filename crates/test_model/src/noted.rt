@@ -1,8 +1,9 @@
 //! Histories that keep what was noted: what makes one, and what they count. `cases/judge` has the faults of notes that make none.
 use crate::lines::{reply_in, request_in};
 use crate::memory::again;
-use mc_model::{History, HistoryKind, Note, NotedBuilder, WordsFault};
+use mc_model::{History, HistoryKind, Note, NotedBuilder};
 use mc_protocol::Actor;
+use mc_words::WordsFault;
 use std::alloc::Global;
 use std::test::Fail;
 

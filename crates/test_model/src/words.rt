@@ -1,10 +1,11 @@
 //! The words of requests and replies, as they are read and as they are printed.
 use crate::lines::{reply_in, request_in};
 use crate::memory::again;
-use mc_model::{
-    WordsFault, WordsKind, is_key, print_reply_words, print_request_words, read_body, read_number,
-};
+use mc_model::is_key;
 use mc_protocol::{Class, Reply, Request, Verb};
+use mc_words::{
+    WordsFault, WordsKind, print_reply_words, print_request_words, read_body, read_number,
+};
 use std::alloc::Global;
 use std::test::Fail;
 

@@ -1,6 +1,7 @@
 //! The script that the tests run: two increments of one counter.
 
-use mc_code::{Code, assemble};
+use mc_assembler::assemble;
+use mc_code::Code;
 use mc_core::Event;
 use mc_protocol::{Actor, Fault, OutOfMemory, Reply};
 use mc_script_text::parse;

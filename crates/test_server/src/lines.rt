@@ -1,7 +1,7 @@
 //! Requests and replies that are written as the lines of a history have them.
-use mc_model::{WordsFault, read_reply_words, read_request_words};
 use mc_protocol::{Reply, Request, Separator, words_in};
 use mc_server::{Caller, StoreFault};
+use mc_words::{WordsFault, read_reply_words, read_request_words};
 use std::alloc::Global;
 use std::sync::Wait;
 use std::test::Fail;

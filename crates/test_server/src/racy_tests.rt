@@ -1,9 +1,9 @@
 //! A server with a race: its `incr` reads, and writes later.
 use crate::lines::{answers, call, is_reply, reply_in, request_in};
 use crate::memory::again;
-use mc_model::WordsFault;
 use mc_protocol::{Reply, Request};
 use mc_server::{Between, Caller, FreeBetween, Racy, StoreFault};
+use mc_words::WordsFault;
 use std::alloc::Global;
 use std::sync::Wait;
 use std::sync::atomic::{AtomicU64, Ordering};

@@ -1,8 +1,8 @@
 //! Timelines that are made note by note, and the first rule that a note breaks.
 use crate::notes::{Broken, Line, push_all};
 use mc_model::HistoryKind::{NotCleared, Order, TooMany, UnseenNumber, WrongReply};
-use mc_model::WordsFault;
 use mc_timeline::{Timeline, TimelineBuilder};
+use mc_words::WordsFault;
 use std::alloc::Global;
 use std::test::Fail;
 

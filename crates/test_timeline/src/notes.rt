@@ -1,7 +1,8 @@
 //! Notes that are written as the lines of a timeline have them.
-use mc_model::{HistoryKind, Note, WordsFault, read_reply_words, read_request_words};
+use mc_model::{HistoryKind, Note};
 use mc_protocol::{Separator, words_in};
 use mc_timeline::TimelineBuilder;
+use mc_words::{WordsFault, read_reply_words, read_request_words};
 use std::alloc::Global;
 
 /// A note: the client, whether its request begins, and the words of the request or of the reply.

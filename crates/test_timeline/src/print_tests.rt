@@ -1,7 +1,7 @@
 //! The texts of timelines.
 use crate::notes::{Line, push_all};
-use mc_model::WordsFault;
 use mc_timeline::{TimelineBuilder, print_timeline};
+use mc_words::WordsFault;
 use std::alloc::Global;
 use std::test::Fail;
 

@@ -1,8 +1,8 @@
 //! Timelines of the requests on one key.
 use crate::notes::{Line, push_all};
-use mc_model::WordsFault;
 use mc_protocol::Bytes;
 use mc_timeline::{TimelineBuilder, print_timeline, restrict};
+use mc_words::WordsFault;
 use std::alloc::Global;
 use std::test::Fail;
 

@@ -1,11 +1,12 @@
 //! Which fault a text of a timeline has: its kind, its line, the word that it is about, and what was expected there.
 
 use mc_history::{Expected, ExpectedInTimeline, Misread};
+use mc_model::HistoryKind;
 use mc_model::HistoryKind::{
     Header, Line, NotCleared, Number, Order, TooMany, Unended, UnseenNumber, WrongReply,
 };
-use mc_model::{ExpectedWord, HistoryKind};
 use mc_timeline_text::parse_timeline;
+use mc_words::ExpectedWord;
 use std::alloc::Global;
 use std::test::Fail;
 

@@ -5,7 +5,8 @@ ghost use Rattle.mc_verify.specs.Refusals.{IsRefusalOf};
 ghost use Rattle.mc_sound.specs.LeastFaults.{HasNoneFrom, kind_number};
 
 use crate::answer::{Fault, fault_of};
-use mc_code::{Code, assemble};
+use mc_assembler::assemble;
+use mc_code::Code;
 use mc_counterexample::shows;
 use mc_protocol::Actor::{self, *};
 use mc_protocol::Class::{self, *};

@@ -3,9 +3,9 @@
 
 use crate::why_tests::found_of;
 use mc_explain::parse_history;
-use mc_model::print_reply_words;
 use mc_protocol::Reply;
 use mc_why::{Finding, Form};
+use mc_words::print_reply_words;
 use std::alloc::Global;
 use std::test::Fail;
 

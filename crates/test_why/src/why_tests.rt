@@ -2,9 +2,10 @@
 
 use crate::memory::again;
 use mc_explain::{Verdict, judge, parse_history, print_explanation};
-use mc_model::{History, print_reply_words};
+use mc_model::History;
 use mc_protocol::{Actor, OutOfMemory};
 use mc_why::{Answer, Cause, Finding, why_unexplained};
+use mc_words::print_reply_words;
 use std::alloc::Global;
 use std::test::Fail;
 

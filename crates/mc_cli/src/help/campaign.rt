@@ -58,10 +58,10 @@ error says which; it can't stand beside `--seed`.
 
 `--for` runs the campaign for a time instead of a number of jobs: no job begins
 after it, and none is cut off. `--stop-after N` ends it when N jobs are
-unexplained; mcrace looks at that before each block of at most 64 jobs. After
-each 10,000 jobs it writes a report. The status is that of all jobs; what
-follows a report comes once, after the last one. With `--for` a name has at
-most 16 bytes, so that any key is short.
+unexplained; up to four jobs more for each worker may follow these. After each
+10,000 jobs, if another follows, mcrace writes a report. The status is that of
+all jobs; what follows a report comes once, after the last one. With `--for` a
+name has at most 16 bytes, so that any key is short.
 
 If 64 connects in a row fail, mcrace gives up: the rest of the jobs have no
 connection, or with `--for` no further job begins. All tries of a `--wait` are

@@ -1,5 +1,5 @@
 use Rattle.std.proofs.Common.{◌∙◌}
-use Rattle.mc_campaign.proofs.WrittenReport.{brief_text_whole, ok_appended}
+use Rattle.mc_campaign.proofs.ShownReport.{brief_text_whole, ok_appended}
 use Rattle.mc_campaign.proofs.report_text.print_brief_report.Goals as goal
 
 pub returns-clause-ok : goal.returns-clause-ok

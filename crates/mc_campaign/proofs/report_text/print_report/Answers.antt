@@ -1,5 +1,5 @@
 use Rattle.std.proofs.Common.{◌∙◌}
-use Rattle.mc_campaign.proofs.WrittenReport.{ok_appended, text_whole}
+use Rattle.mc_campaign.proofs.ShownReport.{ok_appended, text_whole}
 use Rattle.mc_campaign.proofs.report_text.print_report.Goals as goal
 
 pub returns-clause-ok : goal.returns-clause-ok

@@ -1,6 +1,6 @@
 use Rattle.std.proofs.Common.{◌∙◌, ◌++◌, ap, inl, sym, Err}
 use Rattle.std.proofs.lemmas.Bool.{false≢true}
-use Rattle.mc_command.proofs.BlockTexts.{fault_is_written, grows_more}
+use Rattle.mc_command.proofs.ReportTexts.{fault_is_written, grows_more}
 use Rattle.mc_command.proofs.campaigning.run_campaign_at.Goals as goal
 
 pub returns-in-Ok-clause-answered : goal.returns-in-Ok-clause-answered

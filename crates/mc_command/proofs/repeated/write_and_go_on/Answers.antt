@@ -1,7 +1,7 @@
 use Rattle.std.proofs.Common.{◌∙◌, ◌++◌, ap, inl, inr, refl}
 use Rattle.std.specs.Prelude.{string_bytes}
 use Rattle.mc_answers.specs.Writing.{out_of_memory_text}
-use Rattle.mc_command.proofs.{BlockTexts.grows_more, RunTexts.found_then}
+use Rattle.mc_command.proofs.{ReportTexts.grows_more, RunTexts.found_then}
 use Rattle.mc_command.proofs.repeated.write_and_go_on.Goals as goal
 
 pub returns-in-Ok-totals : goal.returns-in-Ok-totals

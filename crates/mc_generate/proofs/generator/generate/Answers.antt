@@ -1,5 +1,5 @@
 use Rattle.std.proofs.Common.{ap, ◌∙◌}
-use Rattle.mc_code.specs.Layout.{code_of}
+use Rattle.mc_assembler.specs.Layout.{code_of}
 use Rattle.mc_generate.specs.Generated.{generated}
 use Rattle.mc_generate.proofs.RefusalFacts.{script-refused}
 use Rattle.mc_generate.proofs.generator.generate.Goals as goal

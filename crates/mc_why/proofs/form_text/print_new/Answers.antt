@@ -2,7 +2,7 @@ use Rattle.std.proofs.Common.{append_assoc, ap, codes, ◌∙◌, ◌++◌, List
 use Rattle.std.proofs.lemmas.Result.{on_ok_weaker}
 use Rattle.mc_protocol.specs.declared.reply.Reply.{Reply}
 use Rattle.mc_protocol.specs.declared.reply.Reply.TheVariants as replies
-use Rattle.mc_model.specs.Words.{join_words, reply_words}
+use Rattle.mc_words.specs.Words.{join_words, reply_words}
 use Rattle.mc_why.proofs.form_text.print_new.Goals as goal
 
 pub returns : goal.returns

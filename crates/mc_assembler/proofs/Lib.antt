@@ -1,0 +1,13 @@
+pub mod Fronts
+pub mod Bounds
+pub mod Laid
+pub mod StepPlaces
+pub mod Rooms
+pub mod StepCode
+pub mod StepFacts
+pub mod Forwards
+pub mod Backwards
+pub mod WellLaid
+pub mod Agreeing
+pub mod Kept
+pub mod LeadingForwards

@@ -1,6 +1,0 @@
-use Rattle.std.proofs.Common.{◌≡◌, ◌++◌, drop}
-use Rattle.mc_code.specs.Assembling.{clearing_code}
-use Rattle.mc_code.proofs.emit.add_clearing.Given as goal
-
-abbrev pub invariant-keys : goal.invariant-keys
-invariant-keys l = l.out.items ++ clearing_code l.places.labels l.key (drop l.key l.keys) ≡ l.fn.out.items ++ clearing_code l.fn.places.labels 0 l.fn.keys

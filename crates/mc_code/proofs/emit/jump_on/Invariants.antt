@@ -1,6 +1,0 @@
-use Rattle.std.proofs.Common.{◌≡◌, drop}
-use Rattle.mc_code.specs.ScriptRuns.{jump_on}
-use Rattle.mc_code.proofs.emit.jump_on.Given as goal
-
-abbrev pub invariant-jumps : goal.invariant-jumps
-invariant-jumps l = jump_on l.class (drop l.other-index l.jumps) ≡ jump_on l.fn.class l.fn.jumps

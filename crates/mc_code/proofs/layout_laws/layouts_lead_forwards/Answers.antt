@@ -1,5 +1,0 @@
-use Rattle.mc_code.proofs.LeadingForwards.{layouts_lead_forwards}
-use Rattle.mc_code.proofs.layout_laws.layouts_lead_forwards.Goals as goal
-
-pub returns : goal.returns
-returns c = layouts_lead_forwards

@@ -1,5 +1,0 @@
-use Rattle.mc_model.proofs.ReplyWords.{one_reply}
-use Rattle.mc_model.proofs.word_laws.words_spell_one_reply.Goals as goal
-
-pub returns : goal.returns
-returns c = one_reply

@@ -1,5 +1,0 @@
-use Rattle.mc_model.proofs.RequestWords.{one_request}
-use Rattle.mc_model.proofs.word_laws.words_spell_one_request.Goals as goal
-
-pub returns : goal.returns
-returns c = one_request
