@@ -1,7 +1,10 @@
-"""Tests of what counts the parts of ./test: what must fail does, and is told at the end."""
+"""Tests of what counts the parts of ./test, and the tests of a part: what must fail does, and is
+told at the end."""
 
 import contextlib
 import io
+import pathlib
+import runpy
 import time
 import unittest
 
@@ -41,3 +44,39 @@ class PartsOfTest(unittest.TestCase):
             time.sleep(0.05)
         end_all()
         self.assertEqual(below(), set())
+
+
+class Unsteady(unittest.TestCase):
+    """What `TriesOfTest` has run."""
+
+    is_well = False
+
+    def check(self):
+        for row in range(3):
+            with self.subTest(str(row)):
+                self.assertTrue(row or self.is_well)
+
+
+class NotBegun(Unsteady):
+    @classmethod
+    def setUpClass(cls):
+        raise OSError
+
+
+class TriesOfTest(unittest.TestCase):
+    """A test that fails counts once no try is left, and all its rows count then."""
+
+    def test_tries(self):
+        run_class = runpy.run_path(str(pathlib.Path(__file__).with_name("run-tests")))["run_class"]
+        # A class, whether its test passes, and the tries that are left; what counts, and what is
+        # tried again.
+        for row in [(Unsteady, True, 3, [3, 0, 0], []), (Unsteady, False, 2, [0, 0, 0], [0]),
+                    (Unsteady, False, 1, [2, 1, 0], []), (NotBegun, True, 2, [0, 0, 0], [0]),
+                    (NotBegun, True, 1, [0, 1, 0], [])]:
+            tested, is_well, tries, counts, again = row
+            with self.subTest(str(row)):
+                test = tested("check")
+                test.is_well = is_well
+                told, *found = run_class([test], tries)
+                self.assertEqual(found, [counts, again])
+                self.assertEqual("\nagain: " in f"\n{told}", bool(again), told)

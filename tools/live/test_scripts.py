@@ -29,7 +29,8 @@ RACES = [
 ]
 # The microseconds of the windows that are tried in turn, first of a late store, then of other bugs:
 # on a busy machine two threads of a server seldom run at once, so a further try has a wider window.
-LATE, WINDOWS = (60, 120, 240), (5, 20, 80)
+# In the widest ones the server sleeps.
+LATE, WINDOWS = (60, 120, 300), (5, 20, 300)
 SCRIPTS = {it.stem: it.read_text(encoding="utf-8")
            for it in sorted((ROOT / "examples/races").glob("*.script"))}
 VERBS = "set add replace append prepend cas incr decr delete touch get gets".split()
