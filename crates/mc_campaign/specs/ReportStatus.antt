@@ -74,9 +74,10 @@ one_accuses results = list_any (λ r. accuses r.outcome) results
 abbrev pub are_clean : {S : Type 0} → List (JobResult S) → Bool
 are_clean results = list_all (λ r. is_clean r.outcome) results
 
--- 1 where a job speaks against the server, and else 0 where nothing was wrong with any of them, and 4 where something was
+-- by whether a job speaks against the server, and whether nothing was wrong with any job
 abbrev pub status_by : Bool → Bool → ℕ
 status_by accuses clean = if accuses then 1 else (if clean then 0 else 4)
 
+-- the exit status of a report: 1 if a job speaks against the server, otherwise 0 if nothing was wrong with any job, and 4 if something was
 abbrev pub status_of : {S : Type 0} → List (JobResult S) → ℕ
 status_of results = status_by (one_accuses results) (are_clean results)

@@ -242,7 +242,7 @@ where
 {
     'workers: for _ in 0..workers {
         let to_collector = to_collector.clone()?;
-        let (desk, second) = Desk::new(rt, alloc, workers)?;
+        let (desk, second) = Desk::new(alloc)?;
         let serve = move || second.serve(rt, alloc, gate);
         let worker = move || {
             work(

@@ -63,7 +63,7 @@ fn first_beside<R: Threads + Wait + Clock + Sync, N: Network, T: RunObserver>(
 ) -> Result<Runs, AllocError>
     ensures { IfOk result (λ runs. AreFirst repeat target.now.how.why (arc_value checked.now).code runs) }
 {
-    let (desk, second) = Desk::new(rt, alloc, 1)?;
+    let (desk, second) = Desk::new(alloc)?;
     thread::scope(
         thread::scope_env(),
         rt,
@@ -265,7 +265,7 @@ fn go_on_beside<R: Threads + Wait + Clock + Sync, N: Network, T: RunObserver>(
     ensures { IfOk result (λ totals.
         answers.Comes repeat target.now.how.why (arc_value checked.now).code first.number first.played totals) }
 {
-    let (desk, second) = Desk::new(rt, alloc, 1)?;
+    let (desk, second) = Desk::new(alloc)?;
     thread::scope(
         thread::scope_env(),
         rt,

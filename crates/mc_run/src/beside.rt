@@ -38,7 +38,6 @@ pub fn run_beside<S: Stream, G: Gate, R: Wait>(
     ensures history { IfOk result (λ found. found.1 ≡ history_of (arc_value checked.now).code found.0.world.world) }
 {
     let table = lay_table(alloc, checked, meet)?;
-    desk.announce(rt);
     let Lanes { p, a, b } = lanes;
     let p = run_section(rt, alloc, &table.book, gate, Part::new(Actor::P, p));
     let (a, b) = run_branches(rt, alloc, &table, gate, (a, b), desk, meet.apart)?;

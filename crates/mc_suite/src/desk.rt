@@ -7,10 +7,6 @@ use std::alloc::{AllocError, Global};
 use std::sync::Wait;
 use std::thread::{Scope, Threads};
 
-// The desks for which there must be processors, so that their threads look for what comes before they sleep. Two players play only if
-// there are processors for both.
-const DESKS: u32 = 1;
-
 /// A desk for runs over connections of this network.
 pub(crate) type DeskOf<N> = Desk<Wire<Socket<<N as Network>::Connection>>>;
 
@@ -20,7 +16,7 @@ pub(crate) fn serve_desk<'s, E, S: Stream + Send + 's, R: Threads + Wait + Sync>
     alloc: Global,
     scope: &Scope<'s, E>,
 ) -> Result<Option<Desk<S>>, AllocError> {
-    let (desk, served) = Desk::new(rt, alloc, DESKS)?;
+    let (desk, served) = Desk::new(alloc)?;
     let serve = move || served.serve(rt, alloc, &FreeGate);
     let is_served = scope.spawn(serve).is_ok();
     Ok(is_served.then_some(desk))

@@ -148,6 +148,9 @@ pub(crate) static RACES: &[Race] = &[
         scripts: &[
             "script 1\nkeys k\nbudget P 2 40\nbudget A 1 20\nbudget B 3 40\nP\nset k 0 =old\nA\ngets k\nB\n\
                 delete k\nadd k 0 =new\ngets k\nend\n",
+            "# A writes nothing, so no race of A and B shows this.\nscript 1\nkeys k\nbudget P 2 40\n\
+                budget A 1 20\nbudget B 4 60\nP\nset k 0 =old\nA\nget k\nB\ngets k\ndelete k\nadd k 0 =new\n\
+                gets k\nend\n",
             "script 1\nkeys k\nvars unique\nbudget P 2 40\nbudget A 2 60\nbudget B 3 40\nP\nset k 0 =old\n\
                 A\ngets k miss:gone >unique\ncas k 0 =a $unique\ngone:\nB\ndelete k\nset k 0 =b\nget k\nend\n",
         ],

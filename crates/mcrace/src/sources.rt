@@ -2,4 +2,4 @@
 
 /// The SHA-256 of all sources, definitions and proofs but of this file.
 pub const SOURCES: &[u8] =
-    b"sources 9de67cf6b952cfbba5c6f989c570223c9b7ecdf7b96369de96c463b314683105\n";
+    b"sources a04b2d7409326dd2499d4c70e8f040ac2df653c1058d1d3b6beee38c90f8ea68\n";

@@ -19,9 +19,6 @@ use std::thread::{self, Threads};
 /// The most turns in which a history is judged.
 const LIMIT: u64 = 1_000;
 
-/// More desks than there are processors for, so that a thread sleeps at once.
-const MANY: u32 = 1_000_000;
-
 /// What is served where P's first write fails.
 static TO_NO_PREFIX: [Served; 3] = [(&[], 1), (&[], NEVER), (&[], NEVER)];
 
@@ -29,13 +26,13 @@ type Code = Arc<Checked, Global>;
 
 #[test]
 fn plays_one_run_after_the_other_over_a_desk(rt: HostRuntime) -> Result<(), Fail> {
-    assert_eq!(rt; first_odd(&rt, rt.alloc(), 1, 10)?, None);
+    assert_eq!(rt; first_odd(&rt, rt.alloc(), 10)?, None);
     Ok(())
 }
 
 #[test]
-fn plays_over_a_desk_that_nobody_looks_at(rt: HostRuntime) -> Result<(), Fail> {
-    assert_eq!(rt; first_odd(&rt, rt.alloc(), MANY, 2)?, None);
+fn plays_over_a_desk(rt: HostRuntime) -> Result<(), Fail> {
+    assert_eq!(rt; first_odd(&rt, rt.alloc(), 2)?, None);
     Ok(())
 }
 
@@ -43,11 +40,10 @@ fn plays_over_a_desk_that_nobody_looks_at(rt: HostRuntime) -> Result<(), Fail> {
 fn first_odd<R: Threads + Wait + Sync>(
     rt: &R,
     alloc: Global,
-    desks: u32,
     ways: usize,
 ) -> Result<Option<Meet>, Fail> {
     let code = Arc::new(alloc, counter(alloc)?)?;
-    let (desk, second) = Desk::new(rt, alloc, desks)?;
+    let (desk, second) = Desk::new(alloc)?;
     thread::scope(
         thread::scope_env(),
         rt,
@@ -128,7 +124,7 @@ fn begin_at_once<R: Threads + Wait + Sync>(
     gate: &BothBegin,
     meet: Meet,
 ) -> Result<bool, Fail> {
-    let (desk, second) = Desk::new(rt, alloc, 1)?;
+    let (desk, second) = Desk::new(alloc)?;
     thread::scope(
         thread::scope_env(),
         rt,
@@ -152,7 +148,7 @@ fn has_no_run_where_the_thread_has_stopped(rt: HostRuntime) -> Result<(), Fail> 
 /// The first way to meet in which there is a run, though nobody serves the desk.
 fn first_alone<R: Threads + Wait>(rt: &R, alloc: Global) -> Result<Option<Meet>, Fail> {
     let code = Arc::new(alloc, counter(alloc)?)?;
-    let (desk, second) = Desk::new(rt, alloc, 1)?;
+    let (desk, second) = Desk::new(alloc)?;
     drop(second);
     let all = meets();
     for meet in &all {
