@@ -13,6 +13,8 @@ from .servers import Carrying, Listening, Replying, Step, answers, free_port, re
 
 # By how many seconds a campaign for a time may end late at a quick server, as the machine may.
 LATE = 2
+# How long a campaign may take to play more jobs than a report has.
+MOST_SECONDS = 120
 # So many connects in a row may fail.
 MOST_IN_A_ROW = 64
 GAVE_UP = "mcrace: gave up after 64 connects in a row failed"
@@ -105,10 +107,12 @@ class Times(servers.ServedTest, CampaignTest):
         """Of 10,000 jobs each, with ranges on standard error. P's connects end each row of those
         that fail, so it doesn't give up."""
         port, other = self.enter(Resetting()).port, free_port()
-        for seconds in (4, 8, 16, 32, 64):
+        seconds = 4
+        while True:
             found = campaign(port, f"--for {seconds}s --show --a 127.0.0.1:{other}")
-            if len(found.reports) > 1:
+            if len(found.reports) > 1 or seconds > MOST_SECONDS:
                 break
+            seconds = 1 + int(seconds * 1.2 * MOST_IN_REPORT / len(found.jobs))
         self.assertEqual((found.status, found.rest), (4, []), found.faults[:300])
         self.assertGreater(len(found.reports), 1)
         last = len(found.jobs) - 1
