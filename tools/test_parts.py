@@ -57,6 +57,11 @@ class Unsteady(unittest.TestCase):
                 self.assertTrue(row or self.is_well)
 
 
+class Final(Unsteady):
+    class failureException(AssertionError):
+        is_final = True
+
+
 class NotBegun(Unsteady):
     @classmethod
     def setUpClass(cls):
@@ -71,7 +76,8 @@ class TriesOfTest(unittest.TestCase):
         # A class, whether its test passes, and the tries that are left; what counts, and what is
         # tried again.
         for row in [(Unsteady, True, 3, [3, 0, 0], []), (Unsteady, False, 2, [0, 0, 0], [0]),
-                    (Unsteady, False, 1, [2, 1, 0], []), (NotBegun, True, 2, [0, 0, 0], [0]),
+                    (Unsteady, False, 1, [2, 1, 0], []), (Final, False, 3, [2, 1, 0], []),
+                    (NotBegun, True, 2, [0, 0, 0], [0]),
                     (NotBegun, True, 1, [0, 1, 0], [])]:
             tested, is_well, tries, counts, again = row
             with self.subTest(str(row)):

@@ -4,7 +4,7 @@ import collections
 import re
 from dataclasses import dataclass
 
-from .program import SECONDS, LiveTest, run
+from .program import SECONDS, LiveTest, run, see_unblamed
 
 JOB = re.compile(r"\d+ (?:explained|unexplained|undecided)(?: [PAB] \w+)*|\d+ no connection [PAB]"
                  r"|\d+ not (?:run|made)")
@@ -62,6 +62,7 @@ class CampaignTest(LiveTest):
     def assert_right(self, port, jobs, options=""):
         """All jobs against a server that is right are explained, and nothing else is said."""
         found = campaign(port, f"--jobs {jobs} {options}")
+        see_unblamed(found.status, found)
         self.assertEqual(found.faults, f"mcrace: seed 1, jobs 0 to {jobs - 1}, 4 workers\n")
         self.assertEqual(found.jobs, [f"{job} explained" for job in range(jobs)])
         answered = found.totals, found.status, found.rest

@@ -29,7 +29,8 @@ class RightServers(servers.ServedTest, CampaignTest):
 
     @three_times
     def test_memcached(self):
-        self.assert_right(self.enter(servers.memcached()).port, 300)
+        with self.assert_at_memcached():
+            self.assert_right(self.enter(servers.memcached()).port, 300)
 
     @rows([("300 jobs", 300), ("in time", 100, "--timeout 20")])
     def test_serve(self, *options):

@@ -10,7 +10,8 @@ import threading
 from xml.etree import ElementTree
 
 from . import servers, test_suite
-from .program import ROOT, LiveTest, judged, on_processors, rows, run, three_times
+from .program import (ROOT, LiveTest, judged, on_processors, rows, run, see_unblamed,
+                      three_times)
 from .test_scripts import ScriptTest
 
 # The scripts of the other races are left out, so that rounds come often.
@@ -110,6 +111,7 @@ class Right(CrowdTest):
     """Servers without a race."""
 
     def assert_nothing(self, found):
+        see_unblamed(found.status, found.text)
         self.assertEqual(found.status, 0, found.text)
         self.assertRegex(found.text, r"\nrounds of 8 clients: [1-9]")
         self.assertRegex(found.text, r"\nno race found in ")
@@ -119,7 +121,8 @@ class Right(CrowdTest):
     def test_memcached(self, seed):
         port = self.enter(servers.memcached()).port
         found = test_suite.tested(port, "--for", "3s", "--seed", seed, "--skip", SKIPPED)
-        self.assert_nothing(found)
+        with self.assert_at_memcached():
+            self.assert_nothing(found)
 
     @three_times
     def test_first(self):

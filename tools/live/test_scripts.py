@@ -9,7 +9,7 @@ import unittest
 from concurrent.futures import ThreadPoolExecutor
 
 from . import servers
-from .program import ROOT, rows, run, three_times
+from .program import ROOT, rows, run, see_unblamed, three_times
 
 # A race or one of its scripts, and a bug that each of these finds.
 RACES = [
@@ -109,6 +109,7 @@ class Right(ScriptTest):
 
     def check_explained(self, script, port):
         ran = played(script, port, "--times", str(RUNS), "--name", script)
+        see_unblamed(ran.status, ran.text)
         self.assertIn(f"runs {RUNS} explained {RUNS} ", ran.text)
 
     def check_all_explained(self, right):

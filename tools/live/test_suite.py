@@ -10,7 +10,7 @@ import unittest
 from xml.etree import ElementTree
 
 from . import servers
-from .program import LiveTest, on_processors, rows, run, three_times
+from .program import LiveTest, on_processors, rows, run, see_unblamed, three_times
 from .test_scripts import RACES, SCRIPTS, ScriptTest, race_of
 
 # Each race, with the bug of examples/faulty_server.c that it finds.
@@ -96,6 +96,7 @@ class Right(ScriptTest):
     """Servers without a race."""
 
     def assert_nothing(self, found):
+        see_unblamed(found.status, found.text)
         self.assertEqual(found.status, 0, found.text)
         self.assertIn("\nwrong alone: none\nnot supported: none\n", found.text)
         self.assertRegex(found.text, r"\nslowest reply \d+\.\d ms, no failed connection\n")
@@ -113,7 +114,8 @@ class Right(ScriptTest):
     def test_memcached(self):
         port = self.enter(servers.memcached()).port
         found = tested(port, "--for", "4s", "--name", "ours", "--seed", "7")
-        self.assert_nothing(found)
+        with self.assert_at_memcached():
+            self.assert_nothing(found)
         version = run(["--version"]).text.splitlines()[0]
         line = rf"{re.escape(version)} on \S+ \(version 1\.[\d.]+\), seed 7, 4\.0 s\n"
         self.assertRegex(found.text, rf"\A{line}")
