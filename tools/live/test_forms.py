@@ -8,8 +8,9 @@ import xml.etree.ElementTree
 
 import cases
 
-from . import servers
 from .program import COUNTER, PROGRAM, SECONDS, run
+from .test_scripts import ScriptTest
+from .test_suite import WIDE_WINDOW
 
 # An operation of EDN: its values are a string, numbers, keywords and strings.
 VALUE = r'(?:"(?:[ !#-\[\]-~]|\\["\\])*"|\d+N?|:[A-Z_]+)'
@@ -83,11 +84,11 @@ class Forms(unittest.TestCase):
                     self.assertRegex(line, OPERATION)
 
 
-class FormsOfRuns(servers.LiveTest):
-    """What is written of runs and of campaigns, at `mcrace serve --racy`."""
+class FormsOfRuns(ScriptTest):
+    """What is written of runs and of campaigns, at a server that loses increments."""
 
     def setUp(self):
-        self.address = f"127.0.0.1:{self.enter(servers.serving('--racy'))[1]}"
+        self.address = f"127.0.0.1:{self.enter(self.faulty('lost-increment', WIDE_WINDOW)).port}"
 
     def test_run(self):
         ran = run(["run", self.address, "--times", "100000", "--why", "--json"], COUNTER)

@@ -175,13 +175,14 @@ class Faults(RecordTest):
         return count
 
 
-class Races(LiveTest):
+class Races(ScriptTest):
     """A server with a race."""
 
     @three_times
     def test_found(self):
         """What a racy server answers is found at once, by clients that know nothing of it."""
-        with servers.serving("--racy") as (_, port), Recorder(port, "--judge") as recorder:
+        with self.faulty("lost-increment", WINDOW) as (_, port), \
+                Recorder(port, "--judge") as recorder:
             streams = [servers.connect(recorder.port) for _ in range(8)]
             streams[0].sendall(b"set n 0 0 1\r\n1\r\n")
             self.assertEqual(streams[0].recv(100), b"STORED\r\n")
