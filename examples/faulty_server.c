@@ -4,8 +4,8 @@
 //
 // Its bugs are these; `none` is a right server. A command that races looks at the item, and acts
 // MICROS later (5 by itself) on what it saw, whatever another connection did meanwhile; with a
-// delay it waits so long before it looks. It sleeps if that is over 250, so that others can act in
-// the window on one processor too; a sleep of less would take longer than it should.
+// delay it waits so long before it looks. It sleeps if either is over 250, so that others can act
+// in the window on one processor too; a sleep of less would take longer than it should.
 //
 //   lost-increment lost-decrement  two commands act on one number (a decrement undoes an incr)
 //   lost-append lost-prepend       two commands act on one body
